@@ -1,0 +1,9 @@
+pub mod Text
+pub mod States
+pub mod Trie
+pub mod Words
+pub mod Link
+pub mod Look
+pub mod Scanned
+pub mod Refusals
+pub mod Promise
