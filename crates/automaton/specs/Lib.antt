@@ -4,6 +4,7 @@ pub mod Trie
 pub mod Words
 pub mod Link
 pub mod Look
+pub mod LookLaw
 pub mod Scanned
 pub mod Refusals
 pub mod Promise
