@@ -32,7 +32,7 @@ has-first ws s (b ∷ t) h =
 -- a text ends in a word exactly where it has a last word
 last-ends : (ws : List Text) (t : Text) → isSome (lastWord ws t) ≡ endsInSome ws t
 unfolding lastWord
-last-ends ws [] = rw (ends-nil ws) (elim (member [] ws) as (λ v. isSome (cond v (Some []) None) ≡ v) [ true ↦ refl | false ↦ refl ])
+last-ends ws [] = rw (ends-nil ws) (elim (member [] ws) as (λ v. isSome {T = Text} (cond v (Some []) None) ≡ v) [ true ↦ refl | false ↦ refl ])
 last-ends ws (y ∷ ys) =
     rw (ends-cons ws y ys)
     (elim (member (y ∷ ys) ws) as (λ v. isSome (cond v (Some (y ∷ ys)) (lastWord ws ys)) ≡ (v || endsInSome ws ys)) [
@@ -55,11 +55,12 @@ has-longer ws s t h = go (has ws (s ++ t)) refl
 look-tells : (ws : List Text) (t more : Text) → has ws t ≡ false → isSome (look ws t more) ≡ has ws (t ++ more)
 unfolding look
 look-tells ws t [] h = sym (rw append-nil h)
-look-tells ws t (b ∷ bs) h = go (lastWord ws (t ++ (b ∷ []))) (completes ws t b h) ∙ ap (has ws) (append-assoc t (b ∷ []) bs)
+look-tells ws t (b ∷ bs) h = go (look-tells ws (t ++ (b ∷ [])) bs) (lastWord ws (t ++ (b ∷ []))) (completes ws t b h) ∙ ap (has ws) (append-assoc t (b ∷ []) bs)
   where
-    go : (x : Option Text) → has ws (t ++ (b ∷ [])) ≡ isSome x → isSome (orFound x (length t) (look ws (t ++ (b ∷ [])) bs)) ≡ has ws ((t ++ (b ∷ [])) ++ bs)
-    go None e = look-tells ws (t ++ (b ∷ [])) bs e
-    go (Some w) e = sym (has-longer ws (t ++ (b ∷ [])) bs e)
+    go : (has ws (t ++ (b ∷ [])) ≡ false → isSome (look ws (t ++ (b ∷ [])) bs) ≡ has ws ((t ++ (b ∷ [])) ++ bs)) →
+        (x : Option Text) → has ws (t ++ (b ∷ [])) ≡ isSome x → isSome (orFound x (length t) (look ws (t ++ (b ∷ [])) bs)) ≡ has ws ((t ++ (b ∷ [])) ++ bs)
+    go later None e = later e
+    go later (Some w) e = sym (has-longer ws (t ++ (b ∷ [])) bs e)
 
 -- the last word is the longest
 
@@ -71,7 +72,7 @@ unfolding lastWord
 last-word-law ws [] w =
     cond-both (member [] ws) (Some []) None (λ x. x ≡ Some w → Longest ws [] w)
     (λ m e. let q : [] ≡ w = cc in subst (Longest ws []) q (record { word = m; front = []; ends = refl; longest = λ u v s _. end-short [] u v s }))
-    (λ _ e. absurd (cc))
+    (λ _ e. absurd (both-ways _ refl (ap isSome e)))
 last-word-law ws (b ∷ t) w =
     cond-both (member (b ∷ t) ws) (Some (b ∷ t)) (lastWord ws t) (λ x. x ≡ Some w → Longest ws (b ∷ t) w)
     (λ m e. let q : b ∷ t ≡ w = cc in subst (Longest ws (b ∷ t)) q (record { word = m; front = []; ends = refl; longest = λ u v s _. end-short (b ∷ t) u v s }))
@@ -86,12 +87,13 @@ last-word-law ws (b ∷ t) w =
 
 look-first : (ws : List Text) (t more : Text) (f : Found) → has ws t ≡ false → look ws t more ≡ Some f → FirstWord ws t more f
 unfolding look
-look-first ws t [] f h e = absurd (cc)
-look-first ws t (b ∷ bs) f h e = go (lastWord ws (t ++ (b ∷ []))) refl e (completes ws t b h)
+look-first ws t [] f h e = absurd (both-ways _ refl (ap isSome e))
+look-first ws t (b ∷ bs) f h e = go (look-first ws (t ++ (b ∷ [])) bs f) (lastWord ws (t ++ (b ∷ []))) refl e (completes ws t b h)
   where
-    go : (x : Option Text) → lastWord ws (t ++ (b ∷ [])) ≡ x → orFound x (length t) (look ws (t ++ (b ∷ [])) bs) ≡ Some f →
+    go : (has ws (t ++ (b ∷ [])) ≡ false → look ws (t ++ (b ∷ [])) bs ≡ Some f → FirstWord ws (t ++ (b ∷ [])) bs f) →
+        (x : Option Text) → lastWord ws (t ++ (b ∷ [])) ≡ x → orFound x (length t) (look ws (t ++ (b ∷ [])) bs) ≡ Some f →
         has ws (t ++ (b ∷ [])) ≡ isSome (lastWord ws (t ++ (b ∷ []))) → FirstWord ws t (b ∷ bs) f
-    go (Some w) l q c =
+    go later (Some w) l q c =
         let is : f ≡ record { place = length t; word = w } = cc in
         record {
           clean = [];
@@ -102,8 +104,8 @@ look-first ws t (b ∷ bs) f h e = go (lastWord ws (t ++ (b ∷ []))) refl e (co
           none = rw append-nil h;
           word = rw (append-nil t, is) (last-word-law ws (t ++ (b ∷ [])) w l);
         }
-    go None l q c =
-        let r = look-first ws (t ++ (b ∷ [])) bs f (c ∙ ap isSome l) q in
+    go later None l q c =
+        let r = later (c ∙ ap isSome l) q in
         let move : (t ++ (b ∷ [])) ++ r .clean ≡ t ++ (b ∷ r .clean) = append-assoc t (b ∷ []) (r .clean) in
         record {
           clean = b ∷ r .clean;
