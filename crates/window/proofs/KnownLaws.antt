@@ -5,7 +5,7 @@ use mathlib.Core.Bool.{Bool, true, false, not}
 use mathlib.Core.List.{List, [], _∷_, _++_}
 use mathlib.Core.Logic.{_⊎_, inl, inr, ⊎-elim}
 use Prim.Native.Nat.{ℕ, zero, suc, _+_, _-_, _<_, _≤_, max}
-use native.Mathlib.Nat.{add-zero}
+use native.Mathlib.Nat.{add-zero, zero-add}
 use native.Mathlib.Omega.{arith}
 use lib.Dec.{leb}
 use lib.ListN.{length, take, drop}
@@ -81,7 +81,7 @@ rest-from i x t j b e =
     there-from i (x ∷ t) j b (record { above = omega (arith, h .above); is = rw d (h .is) })
 
 -- a byte of two texts, one after the other, is a byte of one of them
-pub append-from : (i : ℕ) (s t : List ℕ) (j b : ℕ) → from i (s ++ t) j ≡ Some b → (from i s j ≡ Some b) ⊎ (from (i + length s) t j ≡ Some b)
+append-from : (i : ℕ) (s t : List ℕ) (j b : ℕ) → from i (s ++ t) j ≡ Some b → (from i s j ≡ Some b) ⊎ (from (i + length s) t j ≡ Some b)
 append-from i [] t j b e = inr (rw add-zero e)
 append-from i (x ∷ s) t j b e =
     ⊎-elim (λ (p, q). inl (rw (p, ← q) (head-from i x s)))
@@ -90,6 +90,9 @@ append-from i (x ∷ s) t j b e =
   where
     next : i + suc (length s) ≡ (i + 1) + length s
     next = omega arith
+
+pub append-start : (s t : List ℕ) (j b : ℕ) → nth (s ++ t) j ≡ Some b → (nth s j ≡ Some b) ⊎ (from (length s) t j ≡ Some b)
+append-start s t j b e = ⊎-elim (λ h. inl (start-from s j b h)) (λ h. inr (rw zero-add at h)) (append-from 0 s t j b (from-start (s ++ t) j b e))
 
 -- two texts that stand from one place on in one map agree as far as both go
 pub from-same : (f : Known) (i : ℕ) (s t : List ℕ) → Extends f (from i s) → Extends f (from i t) → length s ≤ length t → t ≡ s ++ drop (length s) t

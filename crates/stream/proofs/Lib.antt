@@ -1,0 +1,4 @@
+pub mod Machines
+pub mod Next
+pub mod Outcomes
+pub mod Sound
