@@ -26,7 +26,7 @@ use Rattle.stream.proofs.Sound.{next-text-known, left-fits}
 
 -- pieces and FINs that go out
 
-in-piece : (t : Text) (p q : Piece) → List·Memᴰ q (pieceIn t p) → (q ≡ p) × (t ≡ [] → ⊥)
+pub in-piece : (t : Text) (p q : Piece) → List·Memᴰ q (pieceIn t p) → (q ≡ p) × (t ≡ [] → ⊥)
 in-piece [] p q m = absurd (List·Memᴰ·not-nil m)
 in-piece (b ∷ bs) p q m = (List·Memᴰ·eq-of-singleton m, λ e. omega (arith, ap length e))
 
@@ -202,7 +202,7 @@ module _ (width : ℕ) (words : List Text) (s : Stream) where
       (same, after-of a (outcome width words s a) ∙ (ap₂ afterOf e same ∙ sym (after-of b (outcome width words s b))))
 
   -- an acknowledged place
-  acked-cases : (P : Stream → Type 0) (i : Place) → P s → ((j : ℕ) → P (acknowledgedTo (At j) s)) → P (step width words s (Acked i))
+  pub acked-cases : (P : Stream → Type 0) (i : Place) → P s → ((j : ℕ) → P (acknowledgedTo (At j) s)) → P (step width words s (Acked i))
   acked-cases P (Below n) same moved = cond-both (s .shut) s s P (λ _. same) (λ _. same)
   acked-cases P (At j) same moved = cond-both (s .shut) s (acknowledgedTo (At j) s) P (λ _. same) (λ _. moved j)
 
