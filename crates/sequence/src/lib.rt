@@ -3,6 +3,7 @@ ghost use Prim.Native.Nat.{_≤_, min};
 ghost use Rattle.sequence.specs.Model.{fitting, modelOf};
 ghost use Rattle.sequence.specs.Places.{before, numberOf, placeAfter, placeOf};
 ghost use mathlib.Core.Path.{_≡_};
+use std::cmp::Ordering;
 
 pub mod laws;
 
@@ -59,9 +60,9 @@ pub fn place_of(first: u32, low: u64, number: u32) -> Place
 {
     let low = low.min(PLACES);
     let ahead = number.wrapping_sub(number_of(first, low));
-    match ahead {
-        0..=HALF => Place::At(low + u64::from(ahead)),
-        _ => before(ahead.wrapping_neg(), low),
+    match ahead.cmp(&HALF) {
+        Ordering::Less | Ordering::Equal => Place::At(low + u64::from(ahead)),
+        Ordering::Greater => before(ahead.wrapping_neg(), low),
     }
 }
 
