@@ -261,12 +261,12 @@ last-tail ws (y ∷ ys) =
       | inr e ↦ rw (e, not-member ws (y ∷ ys) e) (last-tail ws ys)
     ]
 
-ends-nil : (ws : List Text) → endsInSome ws [] ≡ member [] ws
+pub ends-nil : (ws : List Text) → endsInSome ws [] ≡ member [] ws
 unfolding endsInSome endsIn member
 ends-nil [] = refl
 ends-nil (w ∷ ws) = rw (same-comm w [], ends-nil ws)
 
-ends-cons : (ws : List Text) (y : ℕ) (ys : Text) → endsInSome ws (y ∷ ys) ≡ (member (y ∷ ys) ws || endsInSome ws ys)
+pub ends-cons : (ws : List Text) (y : ℕ) (ys : Text) → endsInSome ws (y ∷ ys) ≡ (member (y ∷ ys) ws || endsInSome ws ys)
 unfolding endsInSome endsIn member
 ends-cons [] y ys = refl
 ends-cons (w ∷ ws) y ys =

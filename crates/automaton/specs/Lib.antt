@@ -6,6 +6,7 @@ pub mod Link
 pub mod Lists
 pub mod ReadList
 pub mod Look
+pub mod LookLaw
 pub mod Scanned
 pub mod Tables
 pub mod Promise

@@ -1,2 +1,4 @@
 pub mod Machine
+pub mod Promise
+pub mod Steps
 pub mod Stream

@@ -71,14 +71,10 @@ abbrev pub finFits : ℕ → Stream → Known → ℕ → Bool
 finFits width s known f =
     leb (s .low) f && (ltb f (windowEnd width s) && (noneElsewhere (s .fin) f && noneKnown (s .low + width - f) f known))
 
-abbrev pub keptIf : (ℕ → Bool) → Option ℕ → Option ℕ
-keptIf test None = None
-keptIf test (Some f) = let t : Bool = test f in cond t (Some f) None
-
 -- the place of a segment's FIN, if it has one and it is kept
-abbrev pub keptFin : ℕ → Stream → Known → Bool → Option ℕ → Option ℕ
-keptFin width s known false f = None
-keptFin width s known true f = keptIf (finFits width s known) f
+abbrev pub keptFin : ℕ → Stream → Known → Option ℕ → Option ℕ
+keptFin width s known None = None
+keptFin width s known (Some f) = let fits : Bool = finFits width s known f in cond fits (Some f) None
 
 -- up to where the receiver may acknowledge: the end of the text, and one more where the known FIN stands there
 abbrev pub ackLimit : Stream → ℕ

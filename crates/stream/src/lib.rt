@@ -1,1 +1,2 @@
 // One direction of a stream.
+pub mod laws;
