@@ -1,5 +1,6 @@
 // What holds of texts, words and automata in general. Each function's contract is the theorem.
 ghost use Rattle.automaton.specs.Lists.{ReadsBack, ReadsOn, ReadsValid};
+ghost use Rattle.automaton.specs.LookLaw.{LastWordLaw, LookLaw};
 ghost use Rattle.automaton.specs.Promise.{Examples, GoesToLongest, RunRemembers, RunTells, StatesAre, TailEnough, TailTells, TellsLongest};
 
 // The end of the text that a table remembers is enough to go on.
@@ -75,6 +76,20 @@ pub fn reads_valid() -> u8
 // More bytes change no answer, but that the list is cut.
 pub fn reads_on() -> u8
     ensures { λ _. ⌜ ReadsOn ⌝ }
+{
+    0
+}
+
+// The last word of a text is the longest that it ends in.
+pub fn last_word_law() -> u8
+    ensures { λ _. ⌜ LastWordLaw ⌝ }
+{
+    0
+}
+
+// The look finds a word exactly where one comes to stand in the text, the first of them.
+pub fn look_law() -> u8
+    ensures { λ _. ⌜ LookLaw ⌝ }
 {
     0
 }
