@@ -1,0 +1,139 @@
+-- What is known, overlaid and learned, place by place. Assumes nothing.
+use mathlib.Core.Path.{_≡_, refl, sym, ap, _∙_}
+use mathlib.Core.Bool.{true, false, cond}
+use mathlib.Core.List.{List, [], _∷_}
+use mathlib.Core.Logic.{_⊎_, inl, inr, _≢_}
+use Prim.Native.Nat.{ℕ, zero, suc, _+_, _-_, _<_, _≤_}
+use native.Mathlib.Omega.{arith}
+use lib.ListN.{length, getD}
+use Rattle.std.specs.declared.option.Option.{Option}
+use Rattle.std.specs.declared.option.Option.the-variants.{Some, None}
+use Rattle.std.proofs.shelf.Lists.{ext-getD}
+use Rattle.std.proofs.shelf.Maps.{nth-getD, nth-past}
+use Rattle.std.proofs.shelf.Tests.{both-ways, le-leb, lt-leb}
+use Rattle.std.proofs.shelf.Ways.{tells}
+use Rattle.window.specs.Known.{Known, Within, piece, inside, byteOf, orElse, learn, byteOr, overlay, onwards, noneKnown}
+
+pub inside-from : (i n j : ℕ) → i ≤ j → j < i + n → inside i n j ≡ true
+inside-from i n j h k = grind (arith, tells)
+
+pub inside-below : (i n j : ℕ) → j < i → inside i n j ≡ false
+inside-below i n j h = grind (arith, tells)
+
+pub inside-above : (i n j : ℕ) → i + n ≤ j → inside i n j ≡ false
+inside-above i n j h = grind (arith, tells)
+
+-- a place outside is none of those inside
+pub outside-other : (i n j k : ℕ) → inside i n j ≡ false → k < n → i + k ≢ j
+outside-other i n j k h l e = grind (arith, tells)
+
+-- inside, with the bounds, or outside
+pub inside-cases : (i n j : ℕ) → ((inside i n j ≡ true) × (i ≤ j) × (j < i + n)) ⊎ ((inside i n j ≡ false) × ((j < i) ⊎ (i + n ≤ j)))
+inside-cases i n j = grind (arith, tells)
+
+-- the byte of a piece, by the places that it covers
+pub byteOf-at : (i : ℕ) (bs : List ℕ) (j : ℕ) → byteOf (piece i bs) j ≡ cond (inside i (length bs) j) (Some (getD bs (j - i) 0)) None
+byteOf-at i bs j = elim (inside-cases i (length bs) j) [
+  | inl t ↦ rw (t .0, le-leb i j (t .1)) (nth-getD bs (j - i) 0 (omega arith))
+  | inr t ↦ elim (t .1) [
+    | inl l ↦ rw (t .0, lt-leb i j l)
+    | inr l ↦ rw (t .0, le-leb i j (omega arith)) (nth-past bs (j - i) (omega arith))
+  ]
+]
+
+pub length-overlay : (f : Known) (i : ℕ) (bs : List ℕ) → length (overlay f i bs) ≡ length bs
+unfolding overlay
+length-overlay f i [] = refl
+length-overlay f i (b ∷ bs) = ap suc (length-overlay f (i + 1) bs)
+
+pub getD-overlay : (f : Known) (i : ℕ) (bs : List ℕ) (k : ℕ) → k < length bs → getD (overlay f i bs) k 0 ≡ byteOr (f (i + k)) (getD bs k 0)
+unfolding overlay
+getD-overlay f i [] k h = absurd (omega arith)
+getD-overlay f i (b ∷ bs) zero h = ap (λ j. byteOr (f j) b) (omega arith)
+getD-overlay f i (b ∷ bs) (suc k) h = getD-overlay f (i + 1) bs k (omega arith) ∙ ap (λ j. byteOr (f j) (getD bs k 0)) (omega arith)
+
+-- the only list of that length with those bytes
+pub overlay-is : (f : Known) (i : ℕ) (bs xs : List ℕ) → length xs ≡ length bs
+    → ((k : ℕ) → k < length bs → getD xs k 0 ≡ byteOr (f (i + k)) (getD bs k 0)) → xs ≡ overlay f i bs
+overlay-is f i bs xs e each =
+    ext-getD 0 xs (overlay f i bs) (e ∙ sym (length-overlay f i bs)) (λ k m. each k (omega arith) ∙ sym (getD-overlay f i bs k (omega arith)))
+
+-- what is known keeps its byte, also where it is asked for twice
+byteOr-twice : (x : Option ℕ) (b : ℕ) → byteOr x (byteOr x b) ≡ byteOr x b
+byteOr-twice None b = refl
+byteOr-twice (Some c) b = refl
+
+-- what was overlaid stays as it is
+pub overlay-twice : (f : Known) (i : ℕ) (bs : List ℕ) → overlay f i (overlay f i bs) ≡ overlay f i bs
+unfolding overlay
+overlay-twice f i [] = refl
+overlay-twice f i (b ∷ bs) = rw (byteOr-twice (f i) b, overlay-twice f (i + 1) bs)
+
+-- only the places from i on matter to what is overlaid, read onwards or looked for from there
+module _ (f g : Known) where
+  pub overlay-same : (i : ℕ) (bs : List ℕ) → ((j : ℕ) → i ≤ j → f j ≡ g j) → overlay f i bs ≡ overlay g i bs
+  unfolding overlay
+  overlay-same i [] same = refl
+  overlay-same i (b ∷ bs) same = rw (same i (omega arith), overlay-same (i + 1) bs (λ j h. same j (omega arith)))
+
+  pub onwards-same : (n i : ℕ) → ((j : ℕ) → i ≤ j → f j ≡ g j) → onwards n i f ≡ onwards n i g
+  unfolding onwards
+  onwards-same zero i same = refl
+  onwards-same (suc n) i same = rw (same i (omega arith), onwards-same n (i + 1) (λ j h. same j (omega arith)))
+
+  pub noneKnown-same : (n i : ℕ) → ((j : ℕ) → i ≤ j → f j ≡ g j) → noneKnown n i f ≡ noneKnown n i g
+  unfolding noneKnown
+  noneKnown-same zero i same = refl
+  noneKnown-same (suc n) i same = rw (same i (omega arith), noneKnown-same n (i + 1) (λ j h. same j (omega arith)))
+
+orElse-none : (x : Option ℕ) → orElse x None ≡ x
+orElse-none None = refl
+orElse-none (Some b) = refl
+
+orElse-byteOr : (x : Option ℕ) (b : ℕ) → orElse x (Some (byteOr x b)) ≡ orElse x (Some b)
+orElse-byteOr None b = refl
+orElse-byteOr (Some c) b = refl
+
+orElse-fixed : (x : Option ℕ) (b : ℕ) → b ≡ byteOr x b → orElse x (Some b) ≡ Some b
+orElse-fixed None b e = refl
+orElse-fixed (Some c) b e = ap Some (sym e)
+
+module _ (i : ℕ) (bs : List ℕ) (f : Known) (j : ℕ) where
+  -- a piece teaches nothing of the places that it does not cover
+  pub learn-outside : inside i (length bs) j ≡ false → learn (piece i bs) f j ≡ f j
+  learn-outside out = ap (orElse (f j)) (byteOf-at i bs j ∙ rw out) ∙ orElse-none (f j)
+
+  pub learn-inside : i ≤ j → j < i + length bs → learn (piece i bs) f j ≡ orElse (f j) (Some (getD bs (j - i) 0))
+  learn-inside h l = ap (orElse (f j)) (byteOf-at i bs j ∙ rw (inside-from i (length bs) j h l))
+
+-- a piece that was overlaid teaches what the piece teaches
+pub learn-overlay : (i : ℕ) (bs : List ℕ) (f : Known) (j : ℕ) → learn (piece i (overlay f i bs)) f j ≡ learn (piece i bs) f j
+learn-overlay i bs f j = elim (inside-cases i (length bs) j) [
+  | inl t ↦
+      let at : getD (overlay f i bs) (j - i) 0 ≡ byteOr (f j) (getD bs (j - i) 0) =
+      getD-overlay f i bs (j - i) (omega arith) ∙ ap (λ k. byteOr (f k) (getD bs (j - i) 0)) (omega arith) in
+      learn-inside i (overlay f i bs) f j (t .1) (omega (arith, length-overlay f i bs))
+      ∙ ap (λ b. orElse (f j) (Some b)) at ∙ orElse-byteOr (f j) (getD bs (j - i) 0) ∙ sym (learn-inside i bs f j (t .1) (t .2))
+  | inr t ↦ learn-outside i (overlay f i bs) f j (rw (length-overlay f i bs) (t .0)) ∙ sym (learn-outside i bs f j (t .0))
+]
+
+-- a piece written over what is known
+abbrev pub written : ℕ → List ℕ → Known → Known
+written i bs f j = cond (inside i (length bs) j) (Some (getD bs (j - i) 0)) (f j)
+
+-- to write what was overlaid is to learn it
+pub written-learn : (i : ℕ) (bs : List ℕ) (f : Known) → bs ≡ overlay f i bs → (j : ℕ) → written i bs f j ≡ learn (piece i bs) f j
+written-learn i bs f e j = elim (inside-cases i (length bs) j) [
+  | inl t ↦
+      let at : getD bs (j - i) 0 ≡ byteOr (f j) (getD bs (j - i) 0) =
+      ap (λ xs. getD xs (j - i) 0) e ∙ getD-overlay f i bs (j - i) (omega arith) ∙ ap (λ k. byteOr (f k) (getD bs (j - i) 0)) (omega arith) in
+      rw (t .0) (sym (learn-inside i bs f j (t .1) (t .2) ∙ orElse-fixed (f j) (getD bs (j - i) 0) at))
+  | inr t ↦ rw (t .0) (sym (learn-outside i bs f j (t .0)))
+]
+
+-- what lies outside the window is none of the places that lie within
+pub outside-within : (low width i n j : ℕ) → Within low width i n → inside low width j ≡ false → inside i n j ≡ false
+outside-within low width i n j h out = elim (inside-cases i n j) [
+  | inl t ↦ absurd (both-ways (inside low width j) out (inside-from low width j (omega (arith, h .above (omega arith))) (omega (arith, h .below (omega arith)))))
+  | inr t ↦ t .0
+]
