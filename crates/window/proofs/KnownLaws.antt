@@ -1,16 +1,18 @@
 -- What is known, overlaid and learned, place by place. Assumes nothing.
 use mathlib.Core.Path.{_≡_, refl, sym, ap, _∙_}
-use mathlib.Core.Bool.{true, false, cond}
+use mathlib.Core.Bool.{true, false, cond, not}
 use mathlib.Core.List.{List, [], _∷_}
 use mathlib.Core.Logic.{_⊎_, inl, inr, _≢_}
 use Prim.Native.Nat.{ℕ, zero, suc, _+_, _-_, _<_, _≤_}
 use native.Mathlib.Omega.{arith}
 use lib.ListN.{length, getD}
+use Rattle.std.specs.Options.{isSome}
+use Rattle.std.specs.Orderings.{Decides}
 use Rattle.std.specs.declared.option.Option.{Option}
 use Rattle.std.specs.declared.option.Option.the-variants.{Some, None}
 use Rattle.std.proofs.shelf.Lists.{ext-getD}
 use Rattle.std.proofs.shelf.Maps.{nth-getD, nth-past}
-use Rattle.std.proofs.shelf.Tests.{both-ways, le-leb, lt-leb}
+use Rattle.std.proofs.shelf.Tests.{and-parts, both-ways, cases-lt, le-leb, lt-leb}
 use Rattle.std.proofs.shelf.Ways.{tells}
 use Rattle.window.specs.Known.{Known, Within, piece, inside, byteOf, orElse, learn, byteOr, overlay, onwards, noneKnown}
 
@@ -137,3 +139,39 @@ outside-within low width i n j h out = elim (inside-cases i n j) [
   | inl t ↦ absurd (both-ways (inside low width j) out (inside-from low width j (omega (arith, h .above (omega arith))) (omega (arith, h .below (omega arith)))))
   | inr t ↦ t .0
 ]
+
+-- the only bytes that are known from a place on, up to a gap or as many as n
+pub onwards-is : (n i : ℕ) (f : Known) (xs : List ℕ) → length xs ≤ n → ((k : ℕ) → k < length xs → f (i + k) ≡ Some (getD xs k 0))
+    → (length xs < n → f (i + length xs) ≡ None) → xs ≡ onwards n i f
+unfolding onwards
+onwards-is zero i f [] h known ends = refl
+onwards-is zero i f (x ∷ xs) h known ends = absurd (omega arith)
+onwards-is (suc n) i f [] h known ends =
+    let here : i + 0 ≡ i = omega arith in
+    rw (rw here at (ends (omega arith)))
+onwards-is (suc n) i f (x ∷ xs) h known ends =
+    let here : i + 0 ≡ i = omega arith in
+    let rest : xs ≡ onwards n (i + 1) f = onwards-is n (i + 1) f xs (omega arith)
+    (λ k l. let on : i + suc k ≡ i + 1 + k = omega arith in rw on at (known (suc k) (omega arith)))
+    (λ l. let on : i + suc (length xs) ≡ i + 1 + length xs = omega arith in rw on at (ends (omega arith))) in
+    rw (rw here at (known 0 (omega arith)), ← rest)
+
+none-not-some : (x : Option ℕ) → not (isSome x) ≡ true → x ≡ None
+none-not-some None h = refl
+none-not-some (Some b) h = absurd (both-ways true (sym h) refl)
+
+-- no byte is known at any of the n places
+pub noneKnown-decides : (n i : ℕ) (f : Known) → Decides (noneKnown n i f) ((k : ℕ) → k < n → f (i + k) ≡ None)
+unfolding noneKnown
+noneKnown-decides zero i f = (λ h k l. absurd (omega arith), λ h. refl)
+noneKnown-decides (suc n) i f =
+    let here : i + 0 ≡ i = omega arith in
+    let rest = noneKnown-decides n (i + 1) f in (
+      λ h k l.
+          let parts = and-parts (not (isSome (f i))) (noneKnown n (i + 1) f) h in
+          elim (cases-lt 0 k) [
+            | inl m ↦ let on : i + k ≡ i + 1 + (k - 1) = omega arith in rw on (rest .0 (parts .1) (k - 1) (omega arith))
+            | inr m ↦ let on : i + k ≡ i = omega arith in rw on (none-not-some (f i) (parts .0))
+          ],
+      λ h. rw (rw here at (h 0 (omega arith))) (rest .1 (λ k l. let on : i + suc k ≡ i + 1 + k = omega arith in rw on at (h (suc k) (omega arith)))),
+    )
