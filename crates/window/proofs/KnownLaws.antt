@@ -5,12 +5,12 @@ use mathlib.Core.List.{List, [], _∷_}
 use mathlib.Core.Logic.{_⊎_, inl, inr, _≢_}
 use Prim.Native.Nat.{ℕ, zero, suc, _+_, _-_, _<_, _≤_}
 use native.Mathlib.Omega.{arith}
-use lib.ListN.{length, getD}
+use lib.ListN.{length, getD, take}
 use Rattle.std.specs.Options.{isSome}
 use Rattle.std.specs.Orderings.{Decides}
 use Rattle.std.specs.declared.option.Option.{Option}
 use Rattle.std.specs.declared.option.Option.the-variants.{Some, None}
-use Rattle.std.proofs.shelf.Lists.{ext-getD}
+use Rattle.std.proofs.shelf.Lists.{ext-getD, getD-take, length-take}
 use Rattle.std.proofs.shelf.Maps.{nth-getD, nth-past}
 use Rattle.std.proofs.shelf.Tests.{and-parts, both-ways, cases-lt, le-leb, lt-leb}
 use Rattle.std.proofs.shelf.Ways.{tells}
@@ -59,6 +59,13 @@ pub overlay-is : (f : Known) (i : ℕ) (bs xs : List ℕ) → length xs ≡ leng
     → ((k : ℕ) → k < length bs → getD xs k 0 ≡ byteOr (f (i + k)) (getD bs k 0)) → xs ≡ overlay f i bs
 overlay-is f i bs xs e each =
     ext-getD 0 xs (overlay f i bs) (e ∙ sym (length-overlay f i bs)) (λ k m. each k (omega arith) ∙ sym (getD-overlay f i bs k (omega arith)))
+
+-- the first bytes of what is overlaid
+pub front-is : (f : Known) (i : ℕ) (bs xs : List ℕ) → length xs ≤ length bs
+    → ((k : ℕ) → k < length xs → getD xs k 0 ≡ byteOr (f (i + k)) (getD bs k 0)) → xs ≡ take (length xs) (overlay f i bs)
+front-is f i bs xs h each =
+    ext-getD 0 xs (take (length xs) (overlay f i bs)) (simp (length-take, length-overlay) (omega arith))
+    (λ k m. each k m ∙ sym (getD-take (length xs) (overlay f i bs) k 0 m ∙ getD-overlay f i bs k (omega arith)))
 
 -- what is known keeps its byte, also where it is asked for twice
 byteOr-twice : (x : Option ℕ) (b : ℕ) → byteOr x (byteOr x b) ≡ byteOr x b
