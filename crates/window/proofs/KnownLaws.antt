@@ -1,16 +1,16 @@
 -- What is known, overlaid and learned, place by place. Assumes nothing.
 use mathlib.Core.Path.{_≡_, refl, sym, ap, _∙_}
 use mathlib.Core.Bool.{true, false, cond, not}
-use mathlib.Core.List.{List, [], _∷_}
+use mathlib.Core.List.{List, [], _∷_, _++_}
 use mathlib.Core.Logic.{_⊎_, inl, inr, _≢_}
 use Prim.Native.Nat.{ℕ, zero, suc, _+_, _-_, _<_, _≤_}
 use native.Mathlib.Omega.{arith}
-use lib.ListN.{length, getD, take}
+use lib.ListN.{length, getD, take, drop}
 use Rattle.std.specs.Options.{isSome}
 use Rattle.std.specs.Orderings.{Decides}
 use Rattle.std.specs.declared.option.Option.{Option}
 use Rattle.std.specs.declared.option.Option.the-variants.{Some, None}
-use Rattle.std.proofs.shelf.Lists.{ext-getD, getD-take, length-take}
+use Rattle.std.proofs.shelf.Lists.{ext-getD, getD-drop, getD-take, length-drop, length-take}
 use Rattle.std.proofs.shelf.Maps.{nth-getD, nth-past}
 use Rattle.std.proofs.shelf.Tests.{and-parts, both-ways, cases-lt, le-leb, lt-leb}
 use Rattle.std.proofs.shelf.Ways.{tells}
@@ -103,6 +103,10 @@ orElse-byteOr : (x : Option ℕ) (b : ℕ) → orElse x (Some (byteOr x b)) ≡ 
 orElse-byteOr None b = refl
 orElse-byteOr (Some c) b = refl
 
+orElse-some : (x : Option ℕ) (b : ℕ) → orElse x (Some b) ≡ Some (byteOr x b)
+orElse-some None b = refl
+orElse-some (Some c) b = refl
+
 orElse-fixed : (x : Option ℕ) (b : ℕ) → b ≡ byteOr x b → orElse x (Some b) ≡ Some b
 orElse-fixed None b e = refl
 orElse-fixed (Some c) b e = ap Some (sym e)
@@ -182,3 +186,46 @@ noneKnown-decides (suc n) i f =
           ],
       λ h. rw (rw here at (h 0 (omega arith))) (rest .1 (λ k l. let on : i + suc k ≡ i + 1 + k = omega arith in rw on at (h (suc k) (omega arith)))),
     )
+
+-- nothing is read onwards from a place that is not known
+pub onwards-none : (n i : ℕ) (f : Known) → f i ≡ None → onwards n i f ≡ []
+unfolding onwards
+onwards-none zero i f e = refl
+onwards-none (suc n) i f e = rw e
+
+-- bytes that are known from a place on are read onwards first
+pub onwards-text : (n i : ℕ) (f : Known) (xs : List ℕ) → length xs ≤ n → ((k : ℕ) → k < length xs → f (i + k) ≡ Some (getD xs k 0))
+    → onwards n i f ≡ xs ++ onwards (n - length xs) (i + length xs) f
+unfolding onwards
+onwards-text n i f [] h known =
+    let all : n - 0 ≡ n = omega arith in
+    let here : i + 0 ≡ i = omega arith in
+    rw (all, here)
+onwards-text zero i f (x ∷ xs) h known = absurd (omega arith)
+onwards-text (suc n) i f (x ∷ xs) h known =
+    let here : i + 0 ≡ i = omega arith in
+    let left : suc n - suc (length xs) ≡ n - length xs = omega arith in
+    let on : i + suc (length xs) ≡ i + 1 + length xs = omega arith in
+    rw (rw here at (known 0 (omega arith)), left, on)
+    (ap (λ ys. x ∷ ys) (onwards-text n (i + 1) f xs (omega arith) (λ k l. let next : i + suc k ≡ i + 1 + k = omega arith in rw next at (known (suc k) (omega arith)))))
+
+-- once a piece is learned, its places have the bytes that are passed on of it
+pub learn-overlaid : (i : ℕ) (bs : List ℕ) (f : Known) (k : ℕ) → k < length bs → learn (piece i bs) f (i + k) ≡ Some (getD (overlay f i bs) k 0)
+learn-overlaid i bs f k h =
+    let on : i + k - i ≡ k = omega arith in
+    learn-inside i bs f (i + k) (omega arith) (omega arith) ∙ rw on (orElse-some (f (i + k)) (getD bs k 0) ∙ ap Some (sym (getD-overlay f i bs k h)))
+
+-- what a piece adds to a text that ends at one of its places, or right after it: the rest of what is passed on of it, and what was known from there on
+pub onwards-learn : (n i j : ℕ) (bs : List ℕ) (f : Known) → i ≤ j → j ≤ i + length bs → i + length bs - j ≤ n
+    → onwards n j (learn (piece i bs) f) ≡ drop (j - i) (overlay f i bs) ++ onwards (n - (i + length bs - j)) (i + length bs) f
+onwards-learn n i j bs f h l fits =
+    let new = drop (j - i) (overlay f i bs) in
+    let long : length new ≡ i + length bs - j = simp (length-drop, length-overlay) (omega arith) in
+    let end : j + (i + length bs - j) ≡ i + length bs = omega arith in
+    onwards-text n j (learn (piece i bs) f) new (omega arith)
+    (λ k m.
+    let on : i + (j - i + k) ≡ j + k = omega arith in
+    rw on at (learn-overlaid i bs f (j - i + k) (omega arith)) ∙ ap Some (sym (getD-drop (j - i) (overlay f i bs) k 0)))
+    ∙ rw (long, end)
+    (ap (λ ys. new ++ ys) (onwards-same (learn (piece i bs) f) f (n - (i + length bs - j)) (i + length bs)
+    (λ k m. learn-outside i bs f k (inside-above i (length bs) k m))))

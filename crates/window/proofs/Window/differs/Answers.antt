@@ -3,10 +3,10 @@ use Prim.Native.Nat.{_-_}
 use native.Mathlib.Omega.{arith}
 use lib.ListN.{length, take, drop}
 use Rattle.std.specs.Of.Vec.{vec-items}
-use Rattle.std.proofs.shelf.Bits.{pow-pos, mod-below}
 use Rattle.std.proofs.shelf.Lists.{length-take, length-drop, take-rest}
 use Rattle.window.specs.Window.{knows, width}
-use Rattle.window.proofs.RingLaws.{Runs, differs-first, differs-rest}
+use Rattle.window.proofs.RingLaws.{differs-first, differs-rest}
+use Rattle.window.proofs.WindowLaws.{window-runs}
 use Rattle.window.proofs.Window.differs.Needs as need
 
 pub returns-then-not-agrees : need.returns-then-not-agrees
@@ -19,13 +19,7 @@ returns-then-not-agrees c =
     let first = c .min-first .result in
     let bytes : c .as-slice-bytes .result .now ≡ vec-items (w .bytes) = c .as-slice-bytes .ensures .value in
     let bits : c .as-slice-bits .result .now ≡ vec-items (w .bits) = c .as-slice-bits .ensures .value in
-    let runs : Runs (width w) (w .low) place (length part) at first (length part - first) = record {
-      starts = c .cell-at .ensures;
-      below = omega (arith, mod-below place (width w) (pow-pos (w .power)));
-      ends = omega arith;
-      wraps = refl;
-      within = c .pre;
-    } in
+    let runs = window-runs w place (length part) at first (c .cell-at .ensures) (omega arith) (c .pre) in
     let all : first - 0 ≡ first = omega arith in
     let long : length (take first part) ≡ first = simp length-take (omega arith) in
     differs-first (width w) (w .low) place at first (length part - first) (vec-items (w .bytes)) (vec-items (w .bits)) part runs (c .agrees .result)
@@ -41,13 +35,7 @@ returns-else-not-agrees c =
     let first = c .min-first .result in
     let bytes : c .as-slice-bytes .result .now ≡ vec-items (w .bytes) = c .as-slice-bytes .ensures .value in
     let bits : c .as-slice-bits .result .now ≡ vec-items (w .bits) = c .as-slice-bits .ensures .value in
-    let runs : Runs (width w) (w .low) place (length part) at first (length part - first) = record {
-      starts = c .cell-at .ensures;
-      below = omega (arith, mod-below place (width w) (pow-pos (w .power)));
-      ends = omega arith;
-      wraps = refl;
-      within = c .pre;
-    } in
+    let runs = window-runs w place (length part) at first (c .cell-at .ensures) (omega arith) (c .pre) in
     let all : first - 0 ≡ first = omega arith in
     let long : length (take first part) ≡ first = simp length-take (omega arith) in
     let rest : length (drop first part) ≡ length part - first = length-drop first part in

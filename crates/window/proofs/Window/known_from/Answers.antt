@@ -5,13 +5,12 @@ use Prim.Native.Nat.{_+_, _-_}
 use native.Mathlib.Omega.{arith}
 use lib.ListN.{length}
 use Rattle.std.specs.Of.Vec.{vec-items}
-use Rattle.std.proofs.shelf.Bits.{pow-pos, mod-below}
 use Rattle.std.proofs.shelf.Lists.{append-nil}
 use Rattle.window.specs.Known.{inside}
 use Rattle.window.specs.Window.{knows, width}
 use Rattle.window.proofs.KnownLaws.{inside-above, inside-below, onwards-is}
-use Rattle.window.proofs.RingLaws.{Runs, known-first, known-both}
-use Rattle.window.proofs.WindowLaws.{knows-outside}
+use Rattle.window.proofs.RingLaws.{known-first, known-both}
+use Rattle.window.proofs.WindowLaws.{knows-outside, window-runs}
 use Rattle.window.proofs.Window.known_from.Needs as need
 use Rattle.window.proofs.Window.known_from.Needs.{then-n-first, else-n-first, then-from-self·by·then-from-self, then-from-self·by·else-from-self·then-from-self-2}
 
@@ -38,13 +37,7 @@ returns c =
     let bits : c .as-slice-bits .result .now ≡ vec-items (w .bits) = c .as-slice-bits .ensures .value in
     let count = length (c .as-slice-bytes .result .now) - (from - w .low) in
     let size : length (vec-items (w .bytes)) ≡ width w = omega arith in
-    let runs : Runs (width w) (w .low) from count at first (count - first) = record {
-      starts = c .cell-at .ensures;
-      below = omega (arith, mod-below from (width w) (pow-pos (w .power)));
-      ends = omega arith;
-      wraps = refl;
-      within = record { above = λ h. omega arith; below = λ h. omega arith };
-    } in
+    let runs = window-runs w from count at first (c .cell-at .ensures) (omega arith) (record { above = λ h. omega arith; below = λ h. omega arith }) in
     let one = rw bits at (c .run-n .ensures) in
     let run : at + n - at ≡ n = omega arith in
     elim (c .if-n-first .came) [

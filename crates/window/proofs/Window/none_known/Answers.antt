@@ -3,10 +3,11 @@ use mathlib.Core.Bool.{Bool, _&&_}
 use Prim.Native.Nat.{_+_, _-_}
 use native.Mathlib.Omega.{arith}
 use Rattle.std.specs.Of.Vec.{vec-items}
-use Rattle.std.proofs.shelf.Bits.{pow-pos, mod-below}
+use Rattle.std.proofs.shelf.Bits.{pow-pos}
 use Rattle.window.specs.Known.{noneKnown}
 use Rattle.window.specs.Window.{knows, width}
-use Rattle.window.proofs.RingLaws.{Runs, none-first, none-runs}
+use Rattle.window.proofs.RingLaws.{none-first, none-runs}
+use Rattle.window.proofs.WindowLaws.{window-runs}
 use Rattle.window.proofs.Window.none_known.Needs as need
 
 pub returns-then-place-self : need.returns-then-place-self
@@ -25,13 +26,7 @@ returns-then-none c =
     let at = c .cell-at .result in
     let first = c .min-first .result in
     let bits : c .as-slice-bits .result .now ≡ vec-items (w .bits) = c .as-slice-bits .ensures .value in
-    let runs : Runs (width w) (w .low) place count at first (count - first) = record {
-      starts = c .cell-at .ensures;
-      below = omega (arith, mod-below place (width w) (pow-pos (w .power)));
-      ends = omega arith;
-      wraps = refl;
-      within = record { above = λ h. omega arith; below = λ h. omega arith };
-    } in
+    let runs = window-runs w place count at first (c .cell-at .ensures) (omega arith) (record { above = λ h. omega arith; below = λ h. omega arith }) in
     ap (λ (a : Bool). a && c .none-then-none .result) (sym (c .if-none .taken))
     ∙ none-runs (width w) (w .low) (c .args .from) place count at first (count - first) (vec-items (w .bytes)) (vec-items (w .bits)) runs (omega arith) (omega arith)
     (c .none .result) (c .none-then-none .result) (rw bits at (c .none .ensures)) (rw bits at (c .none-then-none .ensures))
@@ -45,12 +40,6 @@ returns-else-none c =
     let at = c .cell-at .result in
     let first = c .min-first .result in
     let bits : c .as-slice-bits .result .now ≡ vec-items (w .bits) = c .as-slice-bits .ensures .value in
-    let runs : Runs (width w) (w .low) place count at first (count - first) = record {
-      starts = c .cell-at .ensures;
-      below = omega (arith, mod-below place (width w) (pow-pos (w .power)));
-      ends = omega arith;
-      wraps = refl;
-      within = record { above = λ h. omega arith; below = λ h. omega arith };
-    } in
+    let runs = window-runs w place count at first (c .cell-at .ensures) (omega arith) (record { above = λ h. omega arith; below = λ h. omega arith }) in
     none-first (width w) (w .low) (c .args .from) place count at first (count - first) (vec-items (w .bytes)) (vec-items (w .bits)) runs (omega arith) (omega arith)
     (c .none .result) (rw bits at (c .none .ensures)) (c .if-none .left)
