@@ -123,7 +123,7 @@ module _ (width : ℕ) (words : List Text) (s : Stream) (a : Segment) where
   done-fins _ (passes u l) f m = in-fin (finLeft width s a) f m
 
   module _ (sound : Sound width words s) where
-    passed-on : PassedOn width words s a
+    passed-on : PassedOn width s a (step width words s (Arrives a) .shut) (passedBy width words s (Arrives a)) (finsBy width words s (Arrives a))
     passed-on =
         record {
           one = one-piece (outcome width words s a);
