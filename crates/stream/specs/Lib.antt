@@ -1,4 +1,5 @@
 pub mod Machine
+pub mod Marks
 pub mod Promise
 pub mod Steps
 pub mod Stream

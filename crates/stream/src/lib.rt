@@ -1,2 +1,7 @@
-// One direction of a stream.
+// One direction of a stream: what is known of each place, the text looked at so far, and what of a segment is passed on.
 pub mod laws;
+mod marks;
+
+pub use marks::Marks;
+pub use marks::MarksDebug;
+pub use marks::MarksPartialEq;
