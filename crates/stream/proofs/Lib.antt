@@ -5,3 +5,5 @@ pub mod Next
 pub mod Outcomes
 pub mod Runs
 pub mod Sound
+pub mod LookLaws
+pub mod WindowFacts

@@ -1,3 +1,4 @@
+pub mod Looked
 pub mod Machine
 pub mod Marks
 pub mod Promise

@@ -1,5 +1,6 @@
 // One direction of a stream: what is known of each place, the text looked at so far, and what of a segment is passed on.
 pub mod laws;
+mod look;
 mod marks;
 
 pub use marks::Marks;
