@@ -7,3 +7,5 @@ pub mod Runs
 pub mod Sound
 pub mod LookLaws
 pub mod WindowFacts
+pub mod PartLaws
+pub mod TakeLaws

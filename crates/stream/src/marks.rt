@@ -4,6 +4,7 @@ ghost use mathlib.Core.Path.{_≡_};
 ghost use Prim.Native.Nat.{_<_};
 ghost use Rattle.std.specs.declared.option.Option.the-variants.{None};
 ghost use Rattle.sequence.specs.Model.{modelOf};
+ghost use Rattle.window.specs.Known.{orElse};
 ghost use Rattle.stream.specs.Marks.{limitOf, lowAfter};
 use sequence::Place;
 
@@ -53,6 +54,22 @@ impl Marks {
         ensures { λ r. ⌜ r ≡ record { low = self .low; end = self .end; fin = self .fin; state = self .state; shut = true } ⌝ }
     {
         Marks { shut: true, ..self }
+    }
+
+    // A segment was passed on: the text ends there then, and a FIN was kept of it or not.
+    pub fn grown(self, end: u64, state: u16, fin: Option<u64>) -> Marks
+        ensures { λ r. ⌜ r ≡ record { low = self .low; end = end; fin = orElse fin (self .fin); state = state; shut = self .shut } ⌝ }
+    {
+        Marks {
+            low: self.low,
+            end,
+            fin: match fin {
+                Some(place) => Some(place),
+                None => self.fin,
+            },
+            state,
+            shut: self.shut,
+        }
     }
 
     // Up to where the receiver may acknowledge: the end of the text, and one more where the known FIN stands there.
