@@ -37,8 +37,7 @@ pub judged-append : (ws : List Text) (t xs ys : Text) (s : ℕ) (r : Finding) �
 judged-append ws t xs ys s (finding.Clean u) a b =
     (look-append ws xs ys t (a .0) ∙ b .0, b .1 ∙ ap (run ws 0) (append-assoc t xs ys))
 judged-append ws t xs ys s (finding.Found i w) a b =
-    let n : length (t ++ xs) + i ≡ length t + (length xs + i) = omega (arith, length-append t xs) in
-    (
+    let n : length (t ++ xs) + i ≡ length t + (length xs + i) = omega (arith, length-append t xs) in (
       rw (length-append xs ys) (omega (arith, b .0)),
       b .1,
       look-append ws xs ys t (a .0) ∙ b .2 ∙ ap (λ k. Some (record { place = k; word = getD ws w [] })) n,

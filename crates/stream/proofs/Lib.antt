@@ -9,3 +9,4 @@ pub mod LookLaws
 pub mod WindowFacts
 pub mod PartLaws
 pub mod TakeLaws
+pub mod MarkLaws

@@ -10,6 +10,7 @@ use lib.Dec.{leb, ltb}
 use lib.ListN.{length, drop, getD}
 use Rattle.std.specs.Finite.{nth}
 use Rattle.std.specs.Options.{isSome}
+use Rattle.std.specs.Orderings.{When}
 use Rattle.std.specs.declared.option.Option.{Option}
 use Rattle.std.specs.declared.option.Option.the-variants.{Some, None}
 use Rattle.std.specs.shelf.Lists.{between}
@@ -31,7 +32,7 @@ use Rattle.stream.specs.Looked.{LookOf}
 use Rattle.stream.specs.Part.{PartOf, finMayStand, keptIf}
 use Rattle.stream.specs.Promise.{Sound}
 use Rattle.stream.specs.Shown.{Shown, Stands, outcomeOf}
-use Rattle.stream.specs.Took.{Took}
+use Rattle.stream.specs.Took.{Differs, Took}
 use Rattle.stream.specs.Steps.{Arrival, Arrives, Closed, Empty, Outcome, Passed, Segment, Word, after, finAt, finLeft, isEmpty, onLook, outcome, pieceLeft, pieceOf, run, step}
 use Rattle.stream.specs.Stream.{Stream, blank, finFits, inner, keptFin, newText, nextKnown, noneElsewhere, passedPart, pieceAt, places, shutDown, taken, upTo, windowEnd}
 use Rattle.stream.specs.declared.look.Looked.{Looked}
@@ -138,6 +139,11 @@ module _ (ws : List Text) (s : Stream) (v : Value) (a : Segment) (r : Part) (h :
   -- what is passed on is the part, overlaid
   pub passes : overlay (knows (v .window)) (r .place) part ≡ passedPart W s (pieceOf a)
   passes = serves .overlays (r .place) part (omega (arith, place-is)) ∙ ap (λ p. overlay (s .known) (p .at) (p .bytes)) inside
+
+  pub differs : (b : Bool) → When b (overlay (knows (v .window)) (r .place) part ≡ part → ⊥) (overlay (knows (v .window)) (r .place) part ≡ part) → Differs W s (pieceOf a) b
+  differs b d =
+      subst (λ (x : List ℕ). When b (x ≡ inner W s (pieceOf a) .bytes → ⊥) (x ≡ inner W s (pieceOf a) .bytes)) passes
+      (subst (λ (y : List ℕ). When b (overlay (knows (v .window)) (r .place) part ≡ y → ⊥) (overlay (knows (v .window)) (r .place) part ≡ y)) (ap (λ p. p .bytes) inside) d)
 
   -- A FIN is kept by the code as by the model
 

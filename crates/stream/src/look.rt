@@ -59,7 +59,14 @@ fn look_both(table: &Table, state: u16, first: &[u8], second: &[u8]) -> Finding
 }
 
 // Looks at the bytes by which a part that begins at `place` lets the text grow that ends at `end`: those of the part from there on, and those known behind it.
-pub(crate) fn look(window: &Window, table: &Table, end: u64, state: u16, place: u64, part: &[u8]) -> Looked
+pub(crate) fn look(
+    window: &Window,
+    table: &Table,
+    end: u64,
+    state: u16,
+    place: u64,
+    part: &[u8],
+) -> Looked
     requires within { ⌜ Within (now window .low) (width (now window)) place (length (now part)) ⌝ }
     requires fits { ⌜ (0 < length (now part) → place + length (now part) ≤ 9223372036854775808) ⌝ }
     ensures { λ r. ⌜ ((ws : List Text) (t : Text) → TableOf ws (now (table .entry)) → state ≡ run ws 0 t → end ≡ length t →

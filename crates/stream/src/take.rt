@@ -2,24 +2,28 @@
 ghost use mathlib.Core.Bool.{true};
 ghost use mathlib.Core.List.{List, [], _∷_, _++_};
 ghost use mathlib.Core.Path.{_≡_};
-ghost use Prim.Native.Nat.{ℕ, _<_, _^_};
+ghost use Prim.Native.Nat.{ℕ};
 ghost use lib.ListN.{length};
 ghost use Rattle.automaton.specs.Tables.{TableOf};
 ghost use Rattle.automaton.specs.Text.{Text, nonempty};
 ghost use Rattle.sequence.specs.Model.{modelOf};
-ghost use Rattle.std.specs.Vec.{made};
 ghost use Rattle.window.specs.Known.{Within, learn, overlay, piece};
 ghost use Rattle.window.specs.Window.{knows, width};
 ghost use Rattle.stream.specs.Shown.{Left, Stands};
-ghost use Rattle.stream.specs.Steps.{Acked, Arrival};
-ghost use Rattle.stream.specs.Took.{Took};
-use automaton::Table;
+ghost use Rattle.stream.specs.Steps.{Acked, Arrival, run};
+ghost use Rattle.stream.specs.Stream.{ackLimit, blank, pieceAt};
+ghost use Rattle.stream.specs.Took.{Differs, Followed, Made, Took};
 use crate::look::Looked;
 use crate::look::look;
+use crate::marks::Marks;
 use crate::part::Part;
 use crate::stream::Stream;
 use crate::taken::Taken;
+use automaton::Table;
 use sequence::Place;
+use std::alloc::Global;
+use window::Window;
+use window::WindowError;
 
 impl Stream {
     // Each known byte stands in place of what came, and all bytes of the part are known.
@@ -53,12 +57,22 @@ impl Stream {
             None
         };
         let marks = self.marks;
-        match look(&self.window, table, marks.end, marks.state, place, &payload[start..end]) {
+        match look(
+            &self.window,
+            table,
+            marks.end,
+            marks.state,
+            place,
+            &payload[start..end],
+        ) {
             Looked::Word { place, word } => {
                 self.marks = marks.shut_down();
                 Taken::Word { place, word }
             }
-            Looked::Clean { end: text_end, state } => {
+            Looked::Clean {
+                end: text_end,
+                state,
+            } => {
                 if start == end && kept.is_none() {
                     return Taken::Empty;
                 }
@@ -72,5 +86,62 @@ impl Stream {
                 }
             }
         }
+    }
+
+    // Whether taking this segment would overwrite one of its bytes with another; nothing is written.
+    pub fn differs(&self, at: Place, payload: &[u8]) -> bool
+        ensures { λ r. ⌜ ((ws : List Text) (before : List Arrival) → nonempty ws ≡ true → Stands ws before (now (self .entry)) →
+            Differs (width (now (self .entry) .window)) (run (width (now (self .entry) .window)) ws blank before) (pieceAt (modelOf at) (now (payload .entry))) r) ⌝ }
+    {
+        let Part { start, end, place } = self.part(at, payload.len());
+        self.window.differs(place, &payload[start..end])
+    }
+
+    // The receiver acknowledges a place.
+    pub fn acknowledge(&mut self, place: Place)
+        ensures width { λ _. ⌜ width (now (self .exit) .window) ≡ width (now (self .entry) .window) ⌝ }
+        ensures took { λ _. ⌜ ((ws : List Text) (before : List Arrival) → nonempty ws ≡ true → Stands ws before (now (self .entry)) →
+            Followed ws (before ++ (Acked (modelOf place) ∷ [])) (now (self .exit))) ⌝ }
+    {
+        if self.marks.shut {
+            return;
+        }
+        let marks = self.marks.acknowledged(place);
+        self.window.advance(marks.low);
+        self.marks = marks;
+    }
+
+    // Up to where the receiver may acknowledge.
+    pub fn ack_limit(&self) -> u64
+        ensures { λ r. ⌜ ((ws : List Text) (before : List Arrival) → nonempty ws ≡ true → Stands ws before (now (self .entry)) →
+            r ≡ ackLimit (run (width (now (self .entry) .window)) ws blank before)) ⌝ }
+    {
+        self.marks.ack_limit()
+    }
+
+    pub fn marks(&self) -> Marks
+        ensures { λ r. ⌜ r ≡ now (self .entry) .marks ⌝ }
+    {
+        self.marks
+    }
+
+    // The stream begins anew.
+    pub fn clear(&mut self)
+        ensures width { λ _. ⌜ width (now (self .exit) .window) ≡ width (now (self .entry) .window) ⌝ }
+        ensures fresh { λ _. ⌜ ((ws : List Text) → Stands ws [] (now (self .exit))) ⌝ }
+    {
+        self.window.clear();
+        self.marks = Marks::start();
+    }
+
+    // A stream with a window of 2^power places, to which nothing came yet.
+    pub fn new(heap: Global, power: u32) -> Result<Stream, WindowError>
+        ensures { λ r. ⌜ Made power r ⌝ }
+    {
+        let window = Window::new(heap, power)?;
+        Ok(Stream {
+            window,
+            marks: Marks::start(),
+        })
     }
 }

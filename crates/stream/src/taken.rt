@@ -12,7 +12,10 @@ pub enum Taken {
     // neither a byte nor a FIN is left
     Empty,
     // a word would stand in the text: the place of the byte that completes it, and the word's number
-    Word { place: u64, word: u8 },
+    Word {
+        place: u64,
+        word: u8,
+    },
     // a word came before
     Closed,
 }

@@ -38,7 +38,10 @@ fn the_ring_wraps(rt: LibcRuntime) -> Result<(), Fail> {
     check_eq(take_in(&mut window, 0, &mut [5; 1030], u64::MAX), (0, 1024))?;
     check_eq(take_in(&mut window, 1024, &mut [6; 100], u64::MAX), (0, 0))?;
     window.advance(1000);
-    check_eq(take_in(&mut window, 1020, &mut [6; 100], u64::MAX), (0, 100))?;
+    check_eq(
+        take_in(&mut window, 1020, &mut [6; 100], u64::MAX),
+        (0, 100),
+    )?;
     let (front, back) = window.known_from(1000);
     check_eq(front.len(), 24)?;
     check_eq(back.len(), 96)?;

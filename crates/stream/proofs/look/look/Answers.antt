@@ -77,8 +77,12 @@ add-result-in-Clean-look-both-2 c =
 
 pub add-result-in-Found-look-both : need.add-result-in-Found-look-both
 add-result-in-Found-look-both c =
-    omega (arith, run-most (c .args .window .now) (c .args .place + length (c .args .part .now)) (c .known-from .result .0 .now) (c .known-from .result .1 .now) (c .known-from .ensures), c .pre .fits (omega arith),
-    c .in-Found-look-both .ensures tt .among)
+    omega (
+      arith,
+      run-most (c .args .window .now) (c .args .place + length (c .args .part .now)) (c .known-from .result .0 .now) (c .known-from .result .1 .now) (c .known-from .ensures),
+      c .pre .fits (omega arith),
+      c .in-Found-look-both .ensures tt .among,
+    )
 
 pub returns-in-Clean-look-both : need.returns-in-Clean-look-both
 returns-in-Clean-look-both c ws t h e n a k =

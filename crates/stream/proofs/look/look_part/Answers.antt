@@ -30,8 +30,7 @@ returns-in-Found c =
 
 pub loop-done-again : need.loop-done-again
 loop-done-again c =
-    let f = knows (c .args .window .now) in
-    (
+    let f = knows (c .args .window .now) in (
       front-most f (c .args .place) (c .loop-done .done) (c .args .part .now) _ (c .overlaid-front-front .result .now) (c .loop-done .inv .0) (between-to-end (c .args .part .now) (c .loop-done .done) (length (c .args .part .now)) (omega arith)) (c .overlaid-front-front .ensures),
       λ ws t h e.
           let a = c .loop-done .inv .1 ws t h e in
