@@ -3,7 +3,7 @@ use crate::checksum::sum;
 use crate::edit::Edit;
 use crate::edit::Patch;
 use crate::read::read;
-use crate::rewrite::header_check;
+use crate::rewrite::header_checksum;
 use crate::rewrite::rewrite;
 use crate::segment::RefusalDebug;
 use std::test::*;
@@ -22,7 +22,7 @@ fn sums() -> Result<(), Fail> {
     check_eq(sum(b"\x00\x01\xf2"), 0xf201)?;
     let header =
         b"\x45\x00\x55\x55\x00\x00\x00\x00\x00\x00\xdd\x2f\x00\x00\x00\x00\x00\x00\x00\x00";
-    check_eq(header_check(header, 0x3285), 0)
+    check_eq(header_checksum(header, 0x3285), 0)
 }
 
 #[test]
@@ -89,10 +89,7 @@ fn overwrites_a_part() -> Result<(), Fail> {
         start: 41,
         ..Edit::none(&segment, 45)
     };
-    let patch = Patch {
-        changed: true,
-        ..Patch::before(&packet, 43, 44)
-    };
+    let patch = Patch::before(&packet, 43, 44);
     packet[43] = b'!';
     let (start, end) = rewrite(&mut packet, edit, patch);
     check(start == 1 && end == 45 && read(&packet[1..45]).is_ok())
