@@ -1,13 +1,15 @@
 // A window on examples, used as the layer above uses it.
 use crate::Window;
+use crate::error::WindowErrorDebug;
 use std::test::*;
 
 // Cuts a piece to what lies inside the window and before `end`, and takes what is left of it in. Where it starts and stops.
 fn take_in(window: &mut Window, place: u64, piece: &mut [u8], end: u64) -> (usize, usize) {
     let (start, stop) = window.cut(place, piece.len(), end);
     let at = place + start as u64;
-    window.overlay(at, &mut piece[start..stop]);
-    window.learn(at, &piece[start..stop]);
+    let part = &mut piece[start..stop];
+    window.overlay(at, part);
+    window.learn(at, part);
     (start, stop)
 }
 
@@ -38,7 +40,10 @@ fn the_ring_wraps(rt: LibcRuntime) -> Result<(), Fail> {
     check_eq(take_in(&mut window, 0, &mut [5; 1030], u64::MAX), (0, 1024))?;
     check_eq(take_in(&mut window, 1024, &mut [6; 100], u64::MAX), (0, 0))?;
     window.advance(1000);
-    check_eq(take_in(&mut window, 1020, &mut [6; 100], u64::MAX), (0, 100))?;
+    check_eq(
+        take_in(&mut window, 1020, &mut [6; 100], u64::MAX),
+        (0, 100),
+    )?;
     let (front, back) = window.known_from(1000);
     check_eq(front.len(), 24)?;
     check_eq(back.len(), 96)?;
