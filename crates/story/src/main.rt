@@ -101,7 +101,7 @@ fn tell(rt: &LibcRuntime) -> Result<(), AnyError> {
     old_way(rt)?;
     println!(rt, "The gate keeps one byte for each place:")?;
     our_way(rt, &table, &mut stream, &SENT)?;
-    println!(rt, "And where the word comes backward, its last byte first:")?;
+    println!(rt, "And where the word comes backward, its last byte first (- is a place that stays empty):")?;
     stream.clear();
     our_way(rt, &table, &mut stream, &BACKWARD)?;
     Ok(())
