@@ -193,6 +193,13 @@ unfolding onwards
 onwards-none zero i f e = refl
 onwards-none (suc n) i f e = rw e
 
+-- where nothing is known from `top` on, it does not matter how many places from there on are read
+pub onwards-enough : (n m i top : ℕ) (f : Known) → ((j : ℕ) → top ≤ j → f j ≡ None) → top ≤ i + n → top ≤ i + m → onwards n i f ≡ onwards m i f
+unfolding onwards
+onwards-enough zero m i top f none h l = sym (onwards-none m i f (none i (omega arith)))
+onwards-enough (suc n) zero i top f none h l = onwards-none (suc n) i f (none i (omega arith))
+onwards-enough (suc n) (suc m) i top f none h l = rw (onwards-enough n m (i + 1) top f none (omega arith) (omega arith))
+
 -- bytes that are known from a place on are read onwards first
 pub onwards-text : (n i : ℕ) (f : Known) (xs : List ℕ) → length xs ≤ n → ((k : ℕ) → k < length xs → f (i + k) ≡ Some (getD xs k 0))
     → onwards n i f ≡ xs ++ onwards (n - length xs) (i + length xs) f

@@ -1,13 +1,15 @@
 // A window on examples, used as the layer above uses it.
 use crate::Window;
+use crate::error::WindowErrorDebug;
 use std::test::*;
 
 // Cuts a piece to what lies inside the window and before `end`, and takes what is left of it in. Where it starts and stops.
 fn take_in(window: &mut Window, place: u64, piece: &mut [u8], end: u64) -> (usize, usize) {
     let (start, stop) = window.cut(place, piece.len(), end);
     let at = place + start as u64;
-    window.overlay(at, &mut piece[start..stop]);
-    window.learn(at, &piece[start..stop]);
+    let part = &mut piece[start..stop];
+    window.overlay(at, part);
+    window.learn(at, part);
     (start, stop)
 }
 

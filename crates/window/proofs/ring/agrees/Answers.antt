@@ -2,9 +2,8 @@ use mathlib.Core.Path.{_≡_, sym, _∙_}
 use mathlib.Core.Bool.{true}
 use Prim.Native.Nat.{_+_, _<_}
 use native.Mathlib.Omega.{arith}
-use borrow.Author.Needs.{needs}
 use lib.ListN.{length}
-use Rattle.std.proofs.shelf.Lists.{places, length-take, length-drop}
+use Rattle.std.proofs.shelf.Lists.{length-take, length-drop}
 use Rattle.std.proofs.shelf.Tests.{both-ways, true≢false}
 use Rattle.window.proofs.RingLaws.{agrees-turn, agrees-known, part-at}
 use Rattle.window.proofs.ring.agrees.Needs as need
