@@ -3,15 +3,18 @@
 use mathlib.Core.Path.{_≡_, refl, sym, _∙_, ap, subst}
 use mathlib.Core.Bool.{Bool, true, false, not}
 use mathlib.Core.List.{List, [], _∷_, _++_}
-use mathlib.Core.Logic.{inl, inr}
+use mathlib.Core.Logic.{_⊎_, inl, inr}
 use Prim.Native.Nat.{ℕ, _+_, _-_, _/_, _*_, _<_, _≤_}
 use native.Mathlib.Omega.{arith}
 use borrow.Rule.Slice.PartMut.{putMid, postOf}
 use lib.ListN.{length, getD, take, drop}
+use Rattle.std.specs.declared.option.Option.{Option}
 use Rattle.std.specs.shelf.Lists.{between}
-use Rattle.std.specs.declared.result.Result.the-variants.{Ok}
+use Rattle.std.specs.declared.option.Option.the-variants.{Some, None}
+use Rattle.std.specs.declared.result.Result.the-variants.{Ok, Err}
 use Rattle.std.proofs.shelf.Lists.{append-nil, drop-all, drop-at, drop-drop, length-append, length-drop, length-take, take-append-drop, take-all}
 use Rattle.std.proofs.shelf.Parts.{between-to-end, take-putMid-below}
+use Rattle.std.proofs.shelf.Tests.{cases-bool, cond-false, cond-true}
 use Rattle.std.proofs.shelf.Ways.{tells}
 use Rattle.packet.specs.Bytes.{Bytes, byte, same}
 use Rattle.packet.specs.Packet.{headLength, packet, read}
@@ -23,22 +26,36 @@ use Rattle.automaton.specs.Text.{Text, nonempty}
 use Rattle.sequence.specs.Model.{modelOf}
 use Rattle.sequence.specs.Places.{placeOf}
 use Rattle.sequence.specs.declared.Place.{Place as Where}
+use Rattle.window.specs.Known.{Piece}
 use Rattle.window.specs.Window.{width}
+use Rattle.window.proofs.KnownLaws.{length-overlay}
 use Rattle.stream.specs.Promise.{Sound}
-use Rattle.stream.specs.Shown.{Shown, Stands, outcomeOf}
-use Rattle.stream.specs.Steps.{Arrives, Segment, after, outcome, pieceOf, run, step}
-use Rattle.stream.specs.Stream.{Stream, blank, inner, places}
+use Rattle.stream.specs.Shown.{Left, Shown, Stands, outcomeOf}
+use Rattle.stream.specs.Steps.{Arrives, Empty, Outcome, Passed, Segment, after, outcome, pieceLeft, pieceOf, run, step}
+use Rattle.stream.specs.Stream.{Stream, blank, inner, passedPart, places}
 use Rattle.stream.specs.Took.{Cuts, Took}
 use Rattle.stream.specs.declared.stream.Stream.{Stream as StreamValue}
 use Rattle.stream.specs.declared.taken.Taken.{Taken}
+use Rattle.stream.specs.declared.taken.Taken.the-variants as taken
 use Rattle.stream.proofs.Kept.{promise}
 use Rattle.stream.proofs.MarkLaws.{text-fits}
+use Rattle.stream.proofs.Outcomes.{Done, closed, done, empty, passes, word}
 use Rattle.stream.proofs.TakeLaws.{run-push}
-use Rattle.filter.specs.Config.{Config, Key}
-use Rattle.filter.specs.Decide.{onOutcome, onSegment, segmentAt}
+use Rattle.filter.specs.Config.{Config, Key, Looms}
+use Rattle.filter.specs.Decide.{advanced, onOutcome, onSegment, packetLeft, segmentAt}
+use Rattle.filter.specs.Forwards.{Edits, numberOfFin}
 use Rattle.filter.specs.Gate.{Connection}
-use Rattle.filter.specs.Held.{Held}
+use Rattle.filter.specs.Gate as gate
+use Rattle.filter.specs.Held.{Handles, Held}
+use Rattle.filter.specs.Verdict.{Refuse, Update}
+use Rattle.filter.specs.declared.verdict.Refusal.the-variants as refusal
+use Rattle.filter.specs.declared.verdict.Verdict.{Verdict}
+use Rattle.filter.specs.declared.verdict.Verdict.the-variants as verdict
 use Rattle.filter.specs.declared.connection.Connection.{Connection as Value}
+
+length-nil : (t : Bytes) → length t ≡ 0 → t ≡ []
+length-nil [] e = refl
+length-nil (x ∷ xs) e = absurd (omega arith)
 
 -- a packet of whose payload, from `start` on, other bytes are left
 module _ (old rest : Bytes) (start : ℕ) (l : start ≤ length old) (n : length rest ≡ length old - start) where
@@ -151,3 +168,98 @@ module _ (c : Config) (m : Connection) (v : Value) (h : Held c m v) where
             ∙ ap (λ s. step (c .width) (c .words) s (Arrives came)) (h .history) ∙ sym (run-push (c .width) (c .words) blank (h .before) (Arrives came));
         stands = subst (λ (s : StreamValue). Stands (c .words) (h .before ++ (Arrives came ∷ [])) s) (sym es) (took .stands);
       }
+
+      -- Whether a byte was overwritten
+
+      abbrev payload : Bytes
+      payload = between (sg .payload) (length old) old
+
+      parts-same : (from to : ℕ) → from ≤ to → to ≤ length payload → take from rest ≡ take from payload → drop to rest ≡ drop to payload →
+          between from to rest ≡ between from to payload → rest ≡ payload
+      parts-same from to o m et ed eb = whole rest ∙ ap (λ x. x ++ (between from to rest ++ drop to rest)) et ∙ ap (λ x. take from payload ++ (x ++ drop to rest)) eb
+          ∙ ap (λ x. take from payload ++ (between from to payload ++ x)) ed ∙ sym (whole payload)
+        where
+          whole : (xs : Bytes) → xs ≡ take from xs ++ (between from to xs ++ drop to xs)
+          whole xs =
+              sym (take-append-drop from xs)
+              ∙ ap (λ x. take from xs ++ x) (sym (take-append-drop (to - from) (drop from xs)) ∙ ap (λ x. between from to xs ++ x) (drop-drop (to - from) from xs ∙ (let e : from + (to - from) ≡ to = omega arith in ap (λ i. drop i xs) e)))
+
+      abbrev left-inside : Bytes
+      left-inside = inner (c .width) (m .stream) (pieceOf (segmentAt m (packet old))) .bytes
+
+      abbrev left-passed : Bytes
+      left-passed = passedPart (c .width) (m .stream) (pieceOf (segmentAt m (packet old)))
+
+      -- of a piece that is passed on, these are its bytes
+      passed-part : (from to place : ℕ) (fin : Option ℕ) → t ≡ taken.Passed from to place fin → left-passed ≡ between from to rest
+      passed-part from to place fin et = go (outcome (c .width) (c .words) (m .stream) (segmentAt m (packet old))) (done (c .width) (c .words) (m .stream) (segmentAt m (packet old)))
+          (answer ∙ ap (outcomeOf (c .words) rest) et)
+        where
+          go : (o : Outcome) → Done (c .width) (c .words) (m .stream) (segmentAt m (packet old)) o → o ≡ Passed (record { at = place; bytes = between from to rest }) fin → left-passed ≡ between from to rest
+          go _ (closed e) f = absurd (let z : _≡_ {A = ℕ} 0 1 = cc in omega arith)
+          go _ (word e found l) f = absurd (let z : _≡_ {A = ℕ} 0 1 = cc in omega arith)
+          go _ (empty e l n k) f = absurd (let z : _≡_ {A = ℕ} 0 1 = cc in omega arith)
+          go _ (passes e l) f = let p : pieceLeft (c .width) (m .stream) (segmentAt m (packet old)) ≡ record { at = place; bytes = between from to rest } = cc in ap (λ (q : Piece). q .bytes) p
+
+      empty-part : t ≡ taken.Empty → left-passed ≡ left-inside
+      empty-part et = go (outcome (c .width) (c .words) (m .stream) (segmentAt m (packet old))) (done (c .width) (c .words) (m .stream) (segmentAt m (packet old))) (answer ∙ ap (outcomeOf (c .words) rest) et)
+        where
+          go : (o : Outcome) → Done (c .width) (c .words) (m .stream) (segmentAt m (packet old)) o → o ≡ Empty → left-passed ≡ left-inside
+          go _ (closed e) f = absurd (let z : _≡_ {A = ℕ} 0 1 = cc in omega arith)
+          go _ (word e found l) f = absurd (let z : _≡_ {A = ℕ} 0 1 = cc in omega arith)
+          go _ (passes e l) f = absurd (let z : _≡_ {A = ℕ} 0 1 = cc in omega arith)
+          go _ (empty e l n k) f = n ∙ sym (length-nil left-inside (sym (length-overlay (m .stream .known) (inner (c .width) (m .stream) (pieceOf (segmentAt m (packet old))) .at) left-inside) ∙ ap length n))
+
+      module _ (left : Left payload rest t) where
+        kept-same : left-passed ≡ left-inside → rest ≡ payload
+        kept-same e = go t refl left cuts
+          where
+            go : (u : Taken) → t ≡ u → Left payload rest u → Cuts left-inside payload u → rest ≡ payload
+            go (taken.Passed from to place fin) et l k = parts-same from to (l .0) (l .1) (l .2) (l .3) (sym (passed-part from to place fin et) ∙ e ∙ sym k)
+            go taken.Empty et l k = l
+            go (taken.Word place w) et l k = l
+            go taken.Closed et l k = l
+
+        not-changed : (t ≡ taken.Empty) ⊎ ((from : ℕ) × (to : ℕ) × (place : ℕ) × (fin : Option ℕ) × (t ≡ taken.Passed from to place fin)) → rest ≡ payload → left-passed ≡ left-inside
+        not-changed (inl e) f = empty-part e
+        not-changed (inr (from, to, place, fin, e)) f =
+            passed-part from to place fin e ∙ ap (between from to) f ∙ subst (λ (u : Taken). Cuts left-inside payload u) e cuts
+
+      -- The verdicts
+
+      -- the numbers of what is held, where only the stream changes
+      same-held : (m′ : Connection) (v′ : Value) → v′ .stream ≡ s′ → v′ .first ≡ v .first → v′ .opening ≡ v .opening → v′ .«last_ack» ≡ v .«last_ack» → v′ .left ≡ v .left →
+          m′ .stream ≡ after (c .width) (m .stream) (segmentAt m (packet old)) (outcomeOf (c .words) rest t) →
+          m′ .first ≡ m .first → m′ .opening ≡ m .opening → m′ .lastAck ≡ m .lastAck → m′ .left ≡ m .left → Held c m′ v′
+      same-held m′ v′ es e1 e2 e3 e4 em f1 f2 f3 f4 =
+          held m′ v′ es em (e1 ∙ h .first ∙ sym f1) (e2 ∙ h .opening ∙ sym f2) (e3 ∙ h .lastAck ∙ sym f3) (e4 ∙ h .left ∙ sym f4)
+
+      pub handles-err : (k : Key) (new : Bytes) (r : Verdict) (v′ : Value) → Edits (v .first) sg (length old) t (Err r) →
+          v′ .stream ≡ s′ → v′ .first ≡ v .first → v′ .opening ≡ v .opening → v′ .«last_ack» ≡ v .«last_ack» → v′ .left ≡ v .left → Handles c k m (packet old) new v′ r
+      handles-err k new r v′ ed es e1 e2 e3 e4 = go t refl ed
+        where
+          go : (u : Taken) → t ≡ u → Edits (v .first) sg (length old) u (Err r) → Handles c k m (packet old) new v′ r
+          go (taken.Passed from to place fin) et f = absurd (let z : _≡_ {A = ℕ} 0 1 = cc in omega arith)
+          go (taken.Word place w) et f =
+              let er : verdict.Word place w ≡ r = cc in
+              subst (Handles c k m (packet old) new v′) er (
+                decided k ∙ ap (λ u. onOutcome c k m (packet old) (outcomeOf (c .words) rest u)) et,
+                same-held (gate.closed m) v′ es e1 e2 e3 e4 (sym (ap (λ u. after (c .width) (m .stream) (segmentAt m (packet old)) (outcomeOf (c .words) rest u)) et)) refl refl refl refl,
+              )
+          go taken.Closed et f =
+              let er : verdict.Drop refusal.Shut ≡ r = cc in
+              subst (Handles c k m (packet old) new v′) er (
+                decided k ∙ ap (λ u. onOutcome c k m (packet old) (outcomeOf (c .words) rest u)) et,
+                same-held m v′ es e1 e2 e3 e4 (sym (ap (λ u. after (c .width) (m .stream) (segmentAt m (packet old)) (outcomeOf (c .words) rest u)) et)) refl refl refl refl,
+              )
+          go taken.Empty et f = elim (cases-bool (sg .marks .ack)) [
+            | inl a ↦ absurd (let g = f ∙ cond-true (sg .marks .ack) _ (Err (verdict.Drop refusal.Empty)) a in let z : _≡_ {A = ℕ} 0 1 = cc in omega arith)
+            | inr a ↦
+                let g = f ∙ cond-false (sg .marks .ack) (Ok (record { number = sg .number; acknowledged = sg .acknowledged; marks = sg .marks .raw / 2 * 2; start = sg .payload; end = sg .payload })) (Err (verdict.Drop refusal.Empty)) a in
+                let er : verdict.Drop refusal.Empty ≡ r = cc in
+                subst (Handles c k m (packet old) new v′) er (
+                  decided k ∙ ap (λ u. onOutcome c k m (packet old) (outcomeOf (c .words) rest u)) et
+                      ∙ cond-false (packet old .ack) (Update k (advanced c (packet old) (m .stream) m) Looms (packetLeft m (packet old) 0 [] None)) (Refuse 9) (sym (rd .1 .ack) ∙ a),
+                  same-held m v′ es e1 e2 e3 e4 (sym (ap (λ u. after (c .width) (m .stream) (segmentAt m (packet old)) (outcomeOf (c .words) rest u)) et)) refl refl refl refl,
+                )
+          ]
