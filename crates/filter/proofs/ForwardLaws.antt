@@ -1,12 +1,13 @@
 -- A sender's segment goes on as decided.
 -- Assumes nothing.
 use mathlib.Core.Path.{_≡_, refl, sym, _∙_, ap, subst}
-use mathlib.Core.Bool.{Bool, true, false, not}
+use mathlib.Core.Bool.{Bool, true, false, cond, not}
 use mathlib.Core.List.{List, [], _∷_, _++_}
 use mathlib.Core.Logic.{_⊎_, inl, inr}
 use Prim.Native.Nat.{ℕ, _+_, _-_, _/_, _*_, _<_, _≤_}
 use native.Mathlib.Omega.{arith}
 use borrow.Rule.Slice.PartMut.{putMid, postOf}
+use lib.Dec.{ltb}
 use lib.ListN.{length, getD, take, drop}
 use Rattle.std.specs.declared.option.Option.{Option}
 use Rattle.std.specs.shelf.Lists.{between}
@@ -14,17 +15,20 @@ use Rattle.std.specs.declared.option.Option.the-variants.{Some, None}
 use Rattle.std.specs.declared.result.Result.the-variants.{Ok, Err}
 use Rattle.std.proofs.shelf.Lists.{append-nil, drop-all, drop-at, drop-drop, length-append, length-drop, length-take, take-append-drop, take-all}
 use Rattle.std.proofs.shelf.Parts.{between-to-end, take-putMid-below}
-use Rattle.std.proofs.shelf.Tests.{cases-bool, cond-false, cond-true}
+use Rattle.std.specs.Options.{isSome}
+use Rattle.std.proofs.shelf.Edits.{length-between}
+use Rattle.std.proofs.shelf.Tests.{cases-bool, cond-false, cond-true, le-ltb, lt-ltb}
 use Rattle.std.proofs.shelf.Ways.{tells}
 use Rattle.packet.specs.Bytes.{Bytes, byte, same}
-use Rattle.packet.specs.Packet.{headLength, packet, read}
+use Rattle.packet.specs.Packet.{headLength, packet, read, rewrite}
+use Rattle.packet.specs.declared.edit.Edit.{Edit}
 use Rattle.packet.specs.Reads.{Reads}
 use Rattle.packet.specs.Rewrites.{Whole, Within}
 use Rattle.packet.specs.declared.segment.Segment.{Segment as Seg}
 use Rattle.packet.proofs.BytesLaws.{byte-front}
 use Rattle.automaton.specs.Text.{Text, nonempty}
 use Rattle.sequence.specs.Model.{modelOf}
-use Rattle.sequence.specs.Places.{placeOf}
+use Rattle.sequence.specs.Places.{numberOf, placeOf}
 use Rattle.sequence.specs.declared.Place.{Place as Where}
 use Rattle.window.specs.Known.{Piece}
 use Rattle.window.specs.Window.{width}
@@ -32,6 +36,7 @@ use Rattle.window.proofs.KnownLaws.{length-overlay}
 use Rattle.stream.specs.Promise.{Sound}
 use Rattle.stream.specs.Shown.{Left, Shown, Stands, outcomeOf}
 use Rattle.stream.specs.Steps.{Arrives, Empty, Outcome, Passed, Segment, after, outcome, pieceLeft, pieceOf, run, step}
+use Rattle.stream.specs.Stream as streams
 use Rattle.stream.specs.Stream.{Stream, blank, inner, passedPart, places}
 use Rattle.stream.specs.Took.{Cuts, Took}
 use Rattle.stream.specs.declared.stream.Stream.{Stream as StreamValue}
@@ -42,7 +47,7 @@ use Rattle.stream.proofs.MarkLaws.{text-fits}
 use Rattle.stream.proofs.Outcomes.{Done, closed, done, empty, passes, word}
 use Rattle.stream.proofs.TakeLaws.{run-push}
 use Rattle.filter.specs.Config.{Config, Key, Looms}
-use Rattle.filter.specs.Decide.{advanced, onOutcome, onSegment, packetLeft, segmentAt}
+use Rattle.filter.specs.Decide.{advanced, marksLeft, numberLeft, onOutcome, onSegment, packetLeft, segmentAt}
 use Rattle.filter.specs.Forwards.{Edits, numberOfFin}
 use Rattle.filter.specs.Gate.{Connection}
 use Rattle.filter.specs.Gate as gate
@@ -263,3 +268,58 @@ module _ (c : Config) (m : Connection) (v : Value) (h : Held c m v) where
                   same-held m v′ es e1 e2 e3 e4 (sym (ap (λ u. after (c .width) (m .stream) (segmentAt m (packet old)) (outcomeOf (c .words) rest u)) et)) refl refl refl refl,
                 )
           ]
+
+      abbrev taken-by : Option ℕ → Stream
+      taken-by fin = streams.taken (c .width) (pieceOf (segmentAt m (packet old))) fin (m .stream)
+
+      number-is : (place from to : ℕ) (bytes : Bytes) (fin : Option ℕ) → from ≤ to → length bytes ≡ to - from →
+          cond (ltb from to) (numberOf (v .first) place) (numberOfFin (v .first) (sg .number) fin) ≡ numberLeft m (packet old) place bytes fin
+      number-is place from to (b ∷ bs) fin o n =
+          cond-true (ltb from to) (numberOf (v .first) place) (numberOfFin (v .first) (sg .number) fin) (lt-ltb from to (omega arith)) ∙ ap (λ x. numberOf x place) (h .first)
+      number-is place from to [] (Some f) o n =
+          cond-false (ltb from to) (numberOf (v .first) place) (numberOf (v .first) f) (le-ltb from to (omega arith)) ∙ ap (λ x. numberOf x f) (h .first)
+      number-is place from to [] None o n = cond-false (ltb from to) (numberOf (v .first) place) (sg .number) (le-ltb from to (omega arith)) ∙ rd .1 .number
+
+      marks-is : (fin : Option ℕ) → cond (isSome fin) (sg .marks .raw) (sg .marks .raw / 2 * 2) ≡ marksLeft (packet old) fin
+      marks-is (Some f) = rd .1 .marks
+      marks-is None = ap (λ x. x / 2 * 2) (rd .1 .marks)
+
+      -- the packet that goes out, and what is held then
+      module _ (k : Key) (new exit : Bytes) (a e : ℕ) (edit : Edit) (v′ : Value) (long : length rest ≡ length payload)
+          (out : between a e exit ≡ rewrite (packet old) (edit .number) (edit .acknowledged) (edit .marks) (between (edit .start) (edit .end) new))
+          (parts : (i j : ℕ) → between (sg .payload + i) (sg .payload + j) new ≡ between i j rest)
+          (es : v′ .stream ≡ s′) (e1 : v′ .first ≡ v .first) (e2 : v′ .opening ≡ v .opening) (e3 : v′ .«last_ack» ≡ cond (sg .marks .ack) (sg .acknowledged) (v .«last_ack»)) (e4 : v′ .left ≡ c .quiet) where
+        advance-held : (s : Stream) → s ≡ after (c .width) (m .stream) (segmentAt m (packet old)) (outcomeOf (c .words) rest t) → Held c (advanced c (packet old) s m) v′
+        advance-held s em =
+            held (advanced c (packet old) s m) v′ es em (e1 ∙ h .first) (e2 ∙ h .opening)
+            (e3 ∙ ap (λ b. cond b (sg .acknowledged) (v .«last_ack»)) (rd .1 .ack) ∙ ap (λ n. cond (packet old .ack) n (v .«last_ack»)) (rd .1 .acknowledged)
+            ∙ ap (cond (packet old .ack) (packet old .acknowledged)) (h .lastAck)) e4
+
+        pub handles-pass : Left payload rest t → Edits (v .first) sg (length old) t (Ok edit) → Handles c k m (packet old) exit v′ (verdict.Pass a e)
+        handles-pass left ed = go t refl left ed
+          where
+            go : (u : Taken) → t ≡ u → Left payload rest u → Edits (v .first) sg (length old) u (Ok edit) → Handles c k m (packet old) exit v′ (verdict.Pass a e)
+            go (taken.Word place w) et l f = absurd (let z : _≡_ {A = ℕ} 0 1 = cc in omega arith)
+            go taken.Closed et l f = absurd (let z : _≡_ {A = ℕ} 0 1 = cc in omega arith)
+            go (taken.Passed from to place fin) et l f =
+                let bytes = between from to rest in
+                let ee : edit ≡ record {
+                  number = cond (ltb from to) (numberOf (v .first) place) (numberOfFin (v .first) (sg .number) fin);
+                  acknowledged = sg .acknowledged;
+                  marks = cond (isSome fin) (sg .marks .raw) (sg .marks .raw / 2 * 2);
+                  start = sg .payload + from;
+                  end = sg .payload + to;
+                } = cc in
+                let n : length bytes ≡ to - from = length-between rest from to (omega (arith, l .1)) in
+                (
+                  advanced c (packet old) (taken-by fin) m,
+                  decided k ∙ ap (λ u. onOutcome c k m (packet old) (outcomeOf (c .words) rest u)) et
+                      ∙ ap (Update k (advanced c (packet old) (taken-by fin) m) Looms)
+                      (sym (out ∙ ap (λ d. rewrite (packet old) (d .number) (d .acknowledged) (d .marks) (between (d .start) (d .end) new)) ee
+                      ∙ ap (λ x. rewrite (packet old) (cond (ltb from to) (numberOf (v .first) place) (numberOfFin (v .first) (sg .number) fin)) (sg .acknowledged) (cond (isSome fin) (sg .marks .raw) (sg .marks .raw / 2 * 2)) x) (parts from to)
+                      ∙ ap (λ x. rewrite (packet old) x (sg .acknowledged) (cond (isSome fin) (sg .marks .raw) (sg .marks .raw / 2 * 2)) bytes) (number-is place from to bytes fin (l .0) n)
+                      ∙ ap (λ x. rewrite (packet old) (numberLeft m (packet old) place bytes fin) x (cond (isSome fin) (sg .marks .raw) (sg .marks .raw / 2 * 2)) bytes) (rd .1 .acknowledged)
+                      ∙ ap (λ x. rewrite (packet old) (numberLeft m (packet old) place bytes fin) (packet old .acknowledged) x bytes) (marks-is fin))),
+                  advance-held (taken-by fin) (sym (ap (λ u. after (c .width) (m .stream) (segmentAt m (packet old)) (outcomeOf (c .words) rest u)) et)),
+                )
+            go taken.Empty et l f = ?
