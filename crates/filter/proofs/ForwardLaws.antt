@@ -12,8 +12,10 @@ use lib.ListN.{length, getD, take, drop}
 use Rattle.std.specs.declared.option.Option.{Option}
 use Rattle.std.specs.shelf.Lists.{between}
 use Rattle.std.specs.declared.option.Option.the-variants.{Some, None}
+use Rattle.std.specs.declared.result.Result.{Result}
 use Rattle.std.specs.declared.result.Result.the-variants.{Ok, Err}
-use Rattle.std.proofs.shelf.Lists.{append-nil, drop-all, drop-at, drop-drop, length-append, length-drop, length-take, take-append-drop, take-all}
+use Rattle.std.proofs.shelf.Lists.{append-nil, drop-all, drop-at, drop-drop, length-append, length-drop, length-take, take-append-drop, take-take}
+use lib.Seq.{take-add}
 use Rattle.std.proofs.shelf.Parts.{between-to-end, take-putMid-below}
 use Rattle.std.specs.Options.{isSome}
 use Rattle.std.proofs.shelf.Edits.{length-between}
@@ -23,7 +25,7 @@ use Rattle.packet.specs.Bytes.{Bytes, byte, same}
 use Rattle.packet.specs.Packet.{headLength, packet, read, rewrite}
 use Rattle.packet.specs.declared.edit.Edit.{Edit}
 use Rattle.packet.specs.Reads.{Reads}
-use Rattle.packet.specs.Rewrites.{Whole, Within}
+use Rattle.packet.specs.Rewrites.{Moved, Whole, Within}
 use Rattle.packet.specs.declared.segment.Segment.{Segment as Seg}
 use Rattle.packet.proofs.BytesLaws.{byte-front}
 use Rattle.automaton.specs.Text.{Text, nonempty}
@@ -34,7 +36,8 @@ use Rattle.window.specs.Known.{Piece}
 use Rattle.window.specs.Window.{width}
 use Rattle.window.proofs.KnownLaws.{length-overlay}
 use Rattle.stream.specs.Promise.{Sound}
-use Rattle.stream.specs.Shown.{Left, Shown, Stands, outcomeOf}
+use Rattle.stream.specs.Shown as stream
+use Rattle.stream.specs.Shown.{Shown, Stands, outcomeOf}
 use Rattle.stream.specs.Steps.{Arrives, Empty, Outcome, Passed, Segment, after, outcome, pieceLeft, pieceOf, run, step}
 use Rattle.stream.specs.Stream as streams
 use Rattle.stream.specs.Stream.{Stream, blank, inner, passedPart, places}
@@ -51,12 +54,15 @@ use Rattle.filter.specs.Decide.{advanced, marksLeft, numberLeft, onOutcome, on
 use Rattle.filter.specs.Forwards.{Edits, numberOfFin}
 use Rattle.filter.specs.Gate.{Connection}
 use Rattle.filter.specs.Gate as gate
-use Rattle.filter.specs.Held.{Handles, Held}
+use Rattle.filter.specs.Held.{Handles, Held, Left}
 use Rattle.filter.specs.Verdict.{Refuse, Update}
 use Rattle.filter.specs.declared.verdict.Refusal.the-variants as refusal
 use Rattle.filter.specs.declared.verdict.Verdict.{Verdict}
 use Rattle.filter.specs.declared.verdict.Verdict.the-variants as verdict
 use Rattle.filter.specs.declared.connection.Connection.{Connection as Value}
+
+ok-is : {A B : Type 0} {x y : A} → _≡_ {A = Result A B} (Ok x) (Ok y) → x ≡ y
+ok-is e = cc
 
 length-nil : (t : Bytes) → length t ≡ 0 → t ≡ []
 length-nil [] e = refl
@@ -111,6 +117,90 @@ module _ (old rest : Bytes) (start : ℕ) (l : start ≤ length old) (n : length
 
   pub rest-same : new ≡ old → rest ≡ drop start old
   rest-same e = sym drop-start ∙ ap (drop start) e
+
+  -- the lent buffer, by what the stream answered
+  module _ (first : ℕ) (sg : Seg) (es : sg .payload ≡ start) (t : Taken) (left : stream.Left (between start (length old) old) rest t) where
+    payload-is : between start (length old) old ≡ drop start old
+    payload-is = between-to-end old start (length old) (omega arith)
+
+    payload-long : length (between start (length old) old) ≡ length old - start
+    payload-long = ap length payload-is ∙ length-drop start old
+
+    front-same : (j : ℕ) → take j rest ≡ take j (between start (length old) old) → take (start + j) new ≡ take (start + j) old
+    front-same j e =
+        take-add start j new ∙ ap (λ x. x ++ take j (drop start new)) (take-new start (omega arith)) ∙ ap (λ x. take start old ++ take j x) drop-start
+        ∙ ap (λ x. take start old ++ x) (e ∙ ap (take j) payload-is) ∙ sym (take-add start j old)
+
+    back-same : (j : ℕ) → drop j rest ≡ drop j (between start (length old) old) → drop (start + j) new ≡ drop (start + j) old
+    back-same j e = drop-new j ∙ e ∙ ap (drop j) payload-is ∙ drop-drop j start old
+
+    pub edit-within : 40 ≤ start → start ≡ headLength old → (edit : Edit) → Edits first sg (length old) t (Ok edit) → Within new (edit .start) (edit .end)
+    edit-within h eh edit ed = go t left ed
+      where
+        go : (u : Taken) → stream.Left (between start (length old) old) rest u → Edits first sg (length old) u (Ok edit) → Within new (edit .start) (edit .end)
+        go (taken.Word place w) q f = absurd (let z : _≡_ {A = ℕ} 0 1 = cc in omega arith)
+        go taken.Closed q f = absurd (let z : _≡_ {A = ℕ} 0 1 = cc in omega arith)
+        go (taken.Passed from to place fin) q f =
+            let ea : edit .start ≡ start + from = ap (λ d. d .start) (ok-is f) ∙ ap (λ i. i + from) es in
+            let ee : edit .end ≡ start + to = ap (λ d. d .end) (ok-is f) ∙ ap (λ i. i + to) es in
+            let lt : to ≤ length (between start (length old) old) = q .1 in
+            rw (ea, ee) (within-new h eh from to (q .0) (omega (arith, payload-long)))
+        go taken.Empty q f = elim (cases-bool (sg .marks .ack)) [
+          | inr b ↦ absurd (let g = f ∙ cond-false (sg .marks .ack) _ (Err (verdict.Drop refusal.Empty)) b in let z : _≡_ {A = ℕ} 0 1 = cc in omega arith)
+          | inl b ↦
+              let g = ok-is (f ∙ cond-true (sg .marks .ack) _ (Err (verdict.Drop refusal.Empty)) b) in
+              let ea : edit .start ≡ start + 0 = ap (λ d. d .start) g ∙ es ∙ omega arith in
+              let ee : edit .end ≡ start + 0 = ap (λ d. d .end) g ∙ es ∙ omega arith in
+              rw (ea, ee) (within-new h eh 0 0 (omega arith) (omega arith))
+        ]
+
+    pub err-left : (r : Verdict) → Edits first sg (length old) t (Err r) → Left old new r
+    err-left r ed = go t left ed
+      where
+        go : (u : Taken) → stream.Left (between start (length old) old) rest u → Edits first sg (length old) u (Err r) → Left old new r
+        go (taken.Passed from to place fin) q f = absurd (let z : _≡_ {A = ℕ} 0 1 = cc in omega arith)
+        go (taken.Word place w) q f = let er : verdict.Word place w ≡ r = cc in subst (Left old new) er (same-new (q ∙ payload-is))
+        go taken.Closed q f = let er : verdict.Drop refusal.Shut ≡ r = cc in subst (Left old new) er (same-new (q ∙ payload-is))
+        go taken.Empty q f = elim (cases-bool (sg .marks .ack)) [
+          | inl b ↦ absurd (let g = f ∙ cond-true (sg .marks .ack) _ (Err (verdict.Drop refusal.Empty)) b in let z : _≡_ {A = ℕ} 0 1 = cc in omega arith)
+          | inr b ↦
+              let g = f ∙ cond-false (sg .marks .ack) (Ok (record { number = sg .number; acknowledged = sg .acknowledged; marks = sg .marks .raw / 2 * 2; start = sg .payload; end = sg .payload })) (Err (verdict.Drop refusal.Empty)) b in
+              let er : verdict.Drop refusal.Empty ≡ r = cc in
+              subst (Left old new) er (same-new (q ∙ payload-is))
+        ]
+
+    -- outside the part that goes out the buffer is as it came
+    pub pass-left : 40 ≤ start → start ≡ headLength old → (edit : Edit) → Edits first sg (length old) t (Ok edit) → (exit : Bytes) (a e : ℕ) → Moved new exit (edit .start) (edit .end) a e → Left old exit (verdict.Pass a e)
+    pass-left h eh edit ed exit a e mv = go t left ed
+      where
+        -- from the front of the part on, and behind its end, nothing was overwritten
+        outside : (from to : ℕ) → from ≤ to → start + to ≤ length old → edit .start ≡ start + from → edit .end ≡ start + to →
+            take (start + from) new ≡ take (start + from) old → drop (start + to) new ≡ drop (start + to) old → Left old exit (verdict.Pass a e)
+        outside from to o m ea ee et ed =
+            let ha : a ≡ from = omega (arith, mv .from, head-new h) in
+            let he : e ≡ start + to = mv .to ∙ ee in
+            let es : start + from + (to - from) ≡ start + to = omega arith in
+            (
+              omega arith,
+              omega arith,
+              mv .before ∙ sym (take-take a (start + from) new (omega arith)) ∙ ap (take a) et ∙ take-take a (start + from) old (omega arith),
+              ap (λ i. drop i exit) (he ∙ sym es) ∙ sym (drop-drop (to - from) (start + from) exit) ∙ ap (drop (to - from)) (subst (λ (i : ℕ). drop i exit ≡ drop i new) ea (mv .after))
+                  ∙ drop-drop (to - from) (start + from) new ∙ ap (λ i. drop i new) es ∙ ed ∙ ap (λ i. drop i old) (sym he),
+            )
+
+        go : (u : Taken) → stream.Left (between start (length old) old) rest u → Edits first sg (length old) u (Ok edit) → Left old exit (verdict.Pass a e)
+        go (taken.Word place w) q f = absurd (let z : _≡_ {A = ℕ} 0 1 = cc in omega arith)
+        go taken.Closed q f = absurd (let z : _≡_ {A = ℕ} 0 1 = cc in omega arith)
+        go (taken.Passed from to place fin) q f =
+            let lt : to ≤ length (between start (length old) old) = q .1 in
+            outside from to (q .0) (omega (arith, payload-long)) (ap (λ d. d .start) (ok-is f) ∙ ap (λ i. i + from) es) (ap (λ d. d .end) (ok-is f) ∙ ap (λ i. i + to) es)
+            (front-same from (q .2)) (back-same to (q .3))
+        go taken.Empty q f = elim (cases-bool (sg .marks .ack)) [
+          | inr b ↦ absurd (let g = f ∙ cond-false (sg .marks .ack) _ (Err (verdict.Drop refusal.Empty)) b in let z : _≡_ {A = ℕ} 0 1 = cc in omega arith)
+          | inl b ↦
+              let g = ok-is (f ∙ cond-true (sg .marks .ack) _ (Err (verdict.Drop refusal.Empty)) b) in
+              outside 0 0 (omega arith) (omega arith) (ap (λ d. d .start) g ∙ es ∙ omega arith) (ap (λ d. d .end) g ∙ es ∙ omega arith) (front-same 0 (ap (take 0) q)) (back-same 0 (ap (drop 0) q))
+        ]
 
 -- a value that stands for what the gate holds of a stream
 module _ (c : Config) (m : Connection) (v : Value) (h : Held c m v) where
@@ -215,11 +305,11 @@ module _ (c : Config) (m : Connection) (v : Value) (h : Held c m v) where
           go _ (passes e l) f = absurd (let z : _≡_ {A = ℕ} 0 1 = cc in omega arith)
           go _ (empty e l n k) f = n ∙ sym (length-nil left-inside (sym (length-overlay (m .stream .known) (inner (c .width) (m .stream) (pieceOf (segmentAt m (packet old))) .at) left-inside) ∙ ap length n))
 
-      module _ (left : Left payload rest t) where
+      module _ (left : stream.Left payload rest t) where
         kept-same : left-passed ≡ left-inside → rest ≡ payload
         kept-same e = go t refl left cuts
           where
-            go : (u : Taken) → t ≡ u → Left payload rest u → Cuts left-inside payload u → rest ≡ payload
+            go : (u : Taken) → t ≡ u → stream.Left payload rest u → Cuts left-inside payload u → rest ≡ payload
             go (taken.Passed from to place fin) et l k = parts-same from to (l .0) (l .1) (l .2) (l .3) (sym (passed-part from to place fin et) ∙ e ∙ sym k)
             go taken.Empty et l k = l
             go (taken.Word place w) et l k = l
@@ -295,10 +385,10 @@ module _ (c : Config) (m : Connection) (v : Value) (h : Held c m v) where
             (e3 ∙ ap (λ b. cond b (sg .acknowledged) (v .«last_ack»)) (rd .1 .ack) ∙ ap (λ n. cond (packet old .ack) n (v .«last_ack»)) (rd .1 .acknowledged)
             ∙ ap (cond (packet old .ack) (packet old .acknowledged)) (h .lastAck)) e4
 
-        pub handles-pass : Left payload rest t → Edits (v .first) sg (length old) t (Ok edit) → Handles c k m (packet old) exit v′ (verdict.Pass a e)
+        pub handles-pass : stream.Left payload rest t → Edits (v .first) sg (length old) t (Ok edit) → Handles c k m (packet old) exit v′ (verdict.Pass a e)
         handles-pass left ed = go t refl left ed
           where
-            go : (u : Taken) → t ≡ u → Left payload rest u → Edits (v .first) sg (length old) u (Ok edit) → Handles c k m (packet old) exit v′ (verdict.Pass a e)
+            go : (u : Taken) → t ≡ u → stream.Left payload rest u → Edits (v .first) sg (length old) u (Ok edit) → Handles c k m (packet old) exit v′ (verdict.Pass a e)
             go (taken.Word place w) et l f = absurd (let z : _≡_ {A = ℕ} 0 1 = cc in omega arith)
             go taken.Closed et l f = absurd (let z : _≡_ {A = ℕ} 0 1 = cc in omega arith)
             go (taken.Passed from to place fin) et l f =
@@ -322,4 +412,23 @@ module _ (c : Config) (m : Connection) (v : Value) (h : Held c m v) where
                       ∙ ap (λ x. rewrite (packet old) (numberLeft m (packet old) place bytes fin) (packet old .acknowledged) x bytes) (marks-is fin))),
                   advance-held (taken-by fin) (sym (ap (λ u. after (c .width) (m .stream) (segmentAt m (packet old)) (outcomeOf (c .words) rest u)) et)),
                 )
-            go taken.Empty et l f = ?
+            go taken.Empty et l f = elim (cases-bool (sg .marks .ack)) [
+              | inr b ↦ absurd (let g = f ∙ cond-false (sg .marks .ack) _ (Err (verdict.Drop refusal.Empty)) b in let z : _≡_ {A = ℕ} 0 1 = cc in omega arith)
+              | inl b ↦
+                  let bare : Edit = record { number = sg .number; acknowledged = sg .acknowledged; marks = sg .marks .raw / 2 * 2; start = sg .payload; end = sg .payload } in
+                  let g = f ∙ cond-true (sg .marks .ack) (Ok bare) (Err (verdict.Drop refusal.Empty)) b in
+                  let ee : edit ≡ bare = cc in
+                  let z : sg .payload - sg .payload ≡ 0 = omega arith in
+                  (
+                    advanced c (packet old) (m .stream) m,
+                    decided k ∙ ap (λ u. onOutcome c k m (packet old) (outcomeOf (c .words) rest u)) et
+                        ∙ cond-true (packet old .ack) (Update k (advanced c (packet old) (m .stream) m) Looms (packetLeft m (packet old) 0 [] None)) (Refuse 9) (sym (rd .1 .ack) ∙ b)
+                        ∙ ap (Update k (advanced c (packet old) (m .stream) m) Looms)
+                        (sym (out ∙ ap (λ d. rewrite (packet old) (d .number) (d .acknowledged) (d .marks) (between (d .start) (d .end) new)) ee
+                        ∙ ap (λ j. rewrite (packet old) (sg .number) (sg .acknowledged) (sg .marks .raw / 2 * 2) (take j (drop (sg .payload) new))) z
+                        ∙ ap (λ x. rewrite (packet old) x (sg .acknowledged) (sg .marks .raw / 2 * 2) []) (rd .1 .number)
+                        ∙ ap (λ x. rewrite (packet old) (packet old .number) x (sg .marks .raw / 2 * 2) []) (rd .1 .acknowledged)
+                        ∙ ap (λ x. rewrite (packet old) (packet old .number) (packet old .acknowledged) (x / 2 * 2) []) (rd .1 .marks))),
+                    advance-held (m .stream) (sym (ap (λ u. after (c .width) (m .stream) (segmentAt m (packet old)) (outcomeOf (c .words) rest u)) et)),
+                  )
+            ]
