@@ -25,9 +25,11 @@ use Rattle.packet.specs.Bytes.{Bytes, byte, same}
 use Rattle.packet.specs.Packet.{headLength, packet, read, rewrite}
 use Rattle.packet.specs.declared.edit.Edit.{Edit}
 use Rattle.packet.specs.Reads.{Reads}
-use Rattle.packet.specs.Rewrites.{Moved, Whole, Within}
+use Rattle.packet.specs.Rewrites.{Before, Moved, Overwritten, Whole, Within}
+use Rattle.packet.specs.declared.edit.Patch.{Patch}
 use Rattle.packet.specs.declared.segment.Segment.{Segment as Seg}
 use Rattle.packet.proofs.BytesLaws.{byte-front}
+use Rattle.packet.proofs.PatchLaws.{overwritten}
 use Rattle.automaton.specs.Text.{Text, nonempty}
 use Rattle.sequence.specs.Model.{modelOf}
 use Rattle.sequence.specs.Places.{numberOf, placeOf}
@@ -41,7 +43,7 @@ use Rattle.stream.specs.Shown.{Shown, Stands, outcomeOf}
 use Rattle.stream.specs.Steps.{Arrives, Empty, Outcome, Passed, Segment, after, outcome, pieceLeft, pieceOf, run, step}
 use Rattle.stream.specs.Stream as streams
 use Rattle.stream.specs.Stream.{Stream, blank, inner, passedPart, places}
-use Rattle.stream.specs.Took.{Cuts, Took}
+use Rattle.stream.specs.Took.{Cuts, Differs, Took}
 use Rattle.stream.specs.declared.stream.Stream.{Stream as StreamValue}
 use Rattle.stream.specs.declared.taken.Taken.{Taken}
 use Rattle.stream.specs.declared.taken.Taken.the-variants as taken
@@ -63,6 +65,9 @@ use Rattle.filter.specs.declared.connection.Connection.{Connection as Value}
 
 ok-is : {A B : Type 0} {x y : A} → _≡_ {A = Result A B} (Ok x) (Ok y) → x ≡ y
 ok-is e = cc
+
+pub payload-length : (old : Bytes) (start : ℕ) → length (between start (length old) old) ≡ length old - start
+payload-length old start = ap length (between-to-end old start (length old) (omega arith)) ∙ length-drop start old
 
 length-nil : (t : Bytes) → length t ≡ 0 → t ≡ []
 length-nil [] e = refl
@@ -123,9 +128,6 @@ module _ (old rest : Bytes) (start : ℕ) (l : start ≤ length old) (n : length
     payload-is : between start (length old) old ≡ drop start old
     payload-is = between-to-end old start (length old) (omega arith)
 
-    payload-long : length (between start (length old) old) ≡ length old - start
-    payload-long = ap length payload-is ∙ length-drop start old
-
     front-same : (j : ℕ) → take j rest ≡ take j (between start (length old) old) → take (start + j) new ≡ take (start + j) old
     front-same j e =
         take-add start j new ∙ ap (λ x. x ++ take j (drop start new)) (take-new start (omega arith)) ∙ ap (λ x. take start old ++ take j x) drop-start
@@ -144,7 +146,7 @@ module _ (old rest : Bytes) (start : ℕ) (l : start ≤ length old) (n : length
             let ea : edit .start ≡ start + from = ap (λ d. d .start) (ok-is f) ∙ ap (λ i. i + from) es in
             let ee : edit .end ≡ start + to = ap (λ d. d .end) (ok-is f) ∙ ap (λ i. i + to) es in
             let lt : to ≤ length (between start (length old) old) = q .1 in
-            rw (ea, ee) (within-new h eh from to (q .0) (omega (arith, payload-long)))
+            rw (ea, ee) (within-new h eh from to (q .0) (omega (arith, payload-length old start)))
         go taken.Empty q f = elim (cases-bool (sg .marks .ack)) [
           | inr b ↦ absurd (let g = f ∙ cond-false (sg .marks .ack) _ (Err (verdict.Drop refusal.Empty)) b in let z : _≡_ {A = ℕ} 0 1 = cc in omega arith)
           | inl b ↦
@@ -179,8 +181,7 @@ module _ (old rest : Bytes) (start : ℕ) (l : start ≤ length old) (n : length
         outside from to o m ea ee et ed =
             let ha : a ≡ from = omega (arith, mv .from, head-new h) in
             let he : e ≡ start + to = mv .to ∙ ee in
-            let es : start + from + (to - from) ≡ start + to = omega arith in
-            (
+            let es : start + from + (to - from) ≡ start + to = omega arith in (
               omega arith,
               omega arith,
               mv .before ∙ sym (take-take a (start + from) new (omega arith)) ∙ ap (take a) et ∙ take-take a (start + from) old (omega arith),
@@ -193,7 +194,7 @@ module _ (old rest : Bytes) (start : ℕ) (l : start ≤ length old) (n : length
         go taken.Closed q f = absurd (let z : _≡_ {A = ℕ} 0 1 = cc in omega arith)
         go (taken.Passed from to place fin) q f =
             let lt : to ≤ length (between start (length old) old) = q .1 in
-            outside from to (q .0) (omega (arith, payload-long)) (ap (λ d. d .start) (ok-is f) ∙ ap (λ i. i + from) es) (ap (λ d. d .end) (ok-is f) ∙ ap (λ i. i + to) es)
+            outside from to (q .0) (omega (arith, payload-length old start)) (ap (λ d. d .start) (ok-is f) ∙ ap (λ i. i + from) es) (ap (λ d. d .end) (ok-is f) ∙ ap (λ i. i + to) es)
             (front-same from (q .2)) (back-same to (q .3))
         go taken.Empty q f = elim (cases-bool (sg .marks .ack)) [
           | inr b ↦ absurd (let g = f ∙ cond-false (sg .marks .ack) _ (Err (verdict.Drop refusal.Empty)) b in let z : _≡_ {A = ℕ} 0 1 = cc in omega arith)
@@ -230,6 +231,13 @@ module _ (c : Config) (m : Connection) (v : Value) (h : Held c m v) where
         ∙ ap (λ bs. record { at = segmentAt m (packet old) .at; bytes = bs; fin = sg .marks .fin })
         (between-to-end old (sg .payload) (length old) (omega arith) ∙ ap (λ i. drop i old) (rd .1 .payload))
         ∙ ap (λ f. record { at = segmentAt m (packet old) .at; bytes = packet old .payload; fin = f }) (rd .1 .fin)
+
+    pub differs-model : (b : Bool) → Differs (width (v .stream .window)) (run (width (v .stream .window)) (c .words) blank (h .before)) (pieceOf came) b →
+        Differs (c .width) (m .stream) (pieceOf (segmentAt m (packet old))) b
+    differs-model b d =
+        subst (λ (a : Segment). Differs (c .width) (m .stream) (pieceOf a) b) came-is
+        (subst (λ (s : Stream). Differs (c .width) s (pieceOf came) b) (sym (h .history))
+        (subst (λ (w : ℕ). Differs w (run w (c .words) blank (h .before)) (pieceOf came) b) (h .wide) d))
 
     module _ (s′ : StreamValue) (rest : Bytes) (t : Taken) (ew : width (s′ .window) ≡ width (v .stream .window)) (took : Took (c .words) (h .before) came s′ rest t) where
       wide : width (s′ .window) ≡ c .width
@@ -320,6 +328,26 @@ module _ (c : Config) (m : Connection) (v : Value) (h : Held c m v) where
         not-changed (inr (from, to, place, fin, e)) f =
             passed-part from to place fin e ∙ ap (between from to) f ∙ subst (λ (u : Taken). Cuts left-inside payload u) e cuts
 
+      -- something goes on only of a segment that was passed, or of which nothing is left
+      goes-on : (edit : Edit) → Edits (v .first) sg (length old) t (Ok edit) → (t ≡ taken.Empty) ⊎ ((from : ℕ) × (to : ℕ) × (place : ℕ) × (fin : Option ℕ) × (t ≡ taken.Passed from to place fin))
+      goes-on edit ed = go t refl ed
+        where
+          go : (u : Taken) → t ≡ u → Edits (v .first) sg (length old) u (Ok edit) → (t ≡ taken.Empty) ⊎ ((from : ℕ) × (to : ℕ) × (place : ℕ) × (fin : Option ℕ) × (t ≡ taken.Passed from to place fin))
+          go (taken.Passed from to place fin) et f = inr (from, to, place, fin, et)
+          go taken.Empty et f = inl et
+          go (taken.Word place w) et f = absurd (let z : _≡_ {A = ℕ} 0 1 = cc in omega arith)
+          go taken.Closed et f = absurd (let z : _≡_ {A = ℕ} 0 1 = cc in omega arith)
+
+      -- the patch says what was overwritten
+      pub patched : (b : Bool) → Differs (c .width) (m .stream) (pieceOf (segmentAt m (packet old))) b → stream.Left payload rest t → (edit : Edit) → Edits (v .first) sg (length old) t (Ok edit) →
+          (patch : Patch) → (b ≡ true → Before old (sg .payload) (length old) patch) → (b ≡ false → (p : Bytes) → Overwritten p p patch) →
+          sg .payload ≤ length old → length rest ≡ length old - sg .payload → Overwritten old (putMid (sg .payload) (length old - sg .payload) old rest) patch
+      patched true d left edit ed patch known nothing l n =
+          overwritten old rest (sg .payload) (length old) patch (known refl) l (omega arith) n (λ e. d (not-changed left (goes-on edit ed) e))
+      patched false d left edit ed patch known nothing l n =
+          subst (λ (x : Bytes). Overwritten old x patch)
+          (sym (same-new old rest (sg .payload) l n (kept-same left d ∙ between-to-end old (sg .payload) (length old) (omega arith)))) (nothing refl old)
+
       -- The verdicts
 
       -- the numbers of what is held, where only the stream changes
@@ -400,8 +428,7 @@ module _ (c : Config) (m : Connection) (v : Value) (h : Held c m v) where
                   start = sg .payload + from;
                   end = sg .payload + to;
                 } = cc in
-                let n : length bytes ≡ to - from = length-between rest from to (omega (arith, l .1)) in
-                (
+                let n : length bytes ≡ to - from = length-between rest from to (omega (arith, l .1)) in (
                   advanced c (packet old) (taken-by fin) m,
                   decided k ∙ ap (λ u. onOutcome c k m (packet old) (outcomeOf (c .words) rest u)) et
                       ∙ ap (Update k (advanced c (packet old) (taken-by fin) m) Looms)
@@ -418,8 +445,7 @@ module _ (c : Config) (m : Connection) (v : Value) (h : Held c m v) where
                   let bare : Edit = record { number = sg .number; acknowledged = sg .acknowledged; marks = sg .marks .raw / 2 * 2; start = sg .payload; end = sg .payload } in
                   let g = f ∙ cond-true (sg .marks .ack) (Ok bare) (Err (verdict.Drop refusal.Empty)) b in
                   let ee : edit ≡ bare = cc in
-                  let z : sg .payload - sg .payload ≡ 0 = omega arith in
-                  (
+                  let z : sg .payload - sg .payload ≡ 0 = omega arith in (
                     advanced c (packet old) (m .stream) m,
                     decided k ∙ ap (λ u. onOutcome c k m (packet old) (outcomeOf (c .words) rest u)) et
                         ∙ cond-true (packet old .ack) (Update k (advanced c (packet old) (m .stream) m) Looms (packetLeft m (packet old) 0 [] None)) (Refuse 9) (sym (rd .1 .ack) ∙ b)

@@ -14,10 +14,10 @@ ghost use Rattle.filter.specs.Config.{Config, Key};
 ghost use Rattle.filter.specs.Gate.{Connection as Model};
 ghost use Rattle.filter.specs.Forwards.{Edits, Inside, numberOfFin};
 ghost use Rattle.filter.specs.Held.{Handles, Held, Left};
-use automaton::Table;
 use crate::connection::Connection;
 use crate::verdict::Refusal;
 use crate::verdict::Verdict;
+use automaton::Table;
 use packet::edit::Edit;
 use packet::edit::Patch;
 use packet::rewrite::rewrite;
@@ -78,7 +78,13 @@ fn edit_left(first: u32, segment: &Segment, len: usize, taken: Taken) -> Result<
 
 impl Connection {
     // A segment of the sender's comes: it goes on with what is left of it, or it is refused.
-    pub(crate) fn forward(&mut self, table: &Table, quiet: u32, segment: &Segment, packet: &mut [u8]) -> Verdict
+    pub(crate) fn forward(
+        &mut self,
+        table: &Table,
+        quiet: u32,
+        segment: &Segment,
+        packet: &mut [u8],
+    ) -> Verdict
         requires { ⌜ Reads (now packet) (Ok (now segment)) ⌝ }
         ensures left { λ r. ⌜ Left (now (packet .entry)) (now (packet .exit)) r ⌝ }
         ensures handles { λ r. ⌜ ((c : Config) (k : Key) (m : Model) → c .quiet ≡ quiet → nonempty (c .words) ≡ true → TableOf (c .words) (now (table .entry)) → Held c m (now (self .entry)) →
@@ -92,7 +98,8 @@ impl Connection {
         } else {
             Patch::none(start)
         };
-        let taken = self.stream.take(table, at, &mut packet[start..], segment.marks.fin);
+        let taken = self.stream
+            .take(table, at, &mut packet[start..], segment.marks.fin);
         match edit_left(self.first, segment, len, taken) {
             Err(verdict) => verdict,
             Ok(edit) => {
