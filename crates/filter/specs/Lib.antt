@@ -3,3 +3,5 @@ pub mod Decide
 pub mod Gate
 pub mod Promise
 pub mod Verdict
+pub mod Forwards
+pub mod Held
