@@ -214,7 +214,7 @@ module _ (width : ℕ) (words : List Text) (s : Stream) where
   grows (Arrives a) = after-grows width words s a (outcome width words s a)
   grows (Acked i) = acked-cases (λ (t : Stream). FirstPart (s .text) (t .text)) i ([], sym (append-nil (s .text))) (λ _. ([], sym (append-nil (s .text))))
 
-  stays : s .shut ≡ true → (a : Arrival) → (step width words s a ≡ s) × (passedBy width words s a ≡ []) × (finsBy width words s a ≡ [])
+  pub stays : s .shut ≡ true → (a : Arrival) → (step width words s a ≡ s) × (passedBy width words s a ≡ []) × (finsBy width words s a ≡ [])
   stays shut (Arrives a) =
       let none : outcome width words s a ≡ Closed = cond-true (s .shut) Closed _ shut in
       (ap (after width s a) none, ap piecesOf none, ap finsOf none)
