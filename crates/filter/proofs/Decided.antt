@@ -22,10 +22,8 @@ use Rattle.packet.proofs.WriteLaws.{sent-right}
 use Rattle.sequence.specs.Places.{Place, Below, At}
 use Rattle.stream.specs.Stream.{Stream, taken, ackLimit, acknowledgedTo}
 use Rattle.stream.specs.Steps.{Arrival, Arrives, Acked, Segment, pieceOf, pieceLeft, finLeft, Outcome, Passed, Empty, Word, Closed, isEmpty, outcome}
-use Rattle.stream.specs.Steps as steps
 use Rattle.stream.proofs.Outcomes.{Done, done}
 use Rattle.stream.proofs.Outcomes as outcomes
-use Rattle.stream.proofs.Next.{stays}
 use Rattle.filter.specs.Config.{Config, Side, Outside, Looms, Key, sameKey, keyFrom}
 use Rattle.filter.specs.Gate.{Connection, begun, active, closed, Gate, among, full}
 use Rattle.filter.specs.Verdict.{Event, Comes, Ticks, Verdict, Refuse, Forward, Update, Begin, End, Shut, Elapse}
@@ -53,11 +51,11 @@ pub record Bare (out : Bytes) : Type 0 where
 abbrev pub NoArrival : Gate → Event → Type 0
 NoArrival g e = (k : Key) → among k (g .keys) ≡ true → arrives k (g .connection k) e ≡ []
 
--- what comes changes the stream in nothing, and nothing goes out for it
-pub record Still (c : Config) (s : Stream) (came : List Arrival) : Type 0 where
-  pub same : steps.run (c .width) (c .words) s came ≡ s
-  pub pieces : steps.passed (c .width) (c .words) s came ≡ []
-  pub fins : steps.fins (c .width) (c .words) s came ≡ []
+-- why nothing is done for a stream: the event brings nothing to it, it is shut, or nothing is left of the segment
+pub data Idle (c : Config) (g : Gate) (e : Event) (k : Key) : Type 0 where
+  idle-none : arrives k (g .connection k) e ≡ [] → Idle c g e k
+  idle-shut : streamOf k g .shut ≡ true → Idle c g e k
+  idle-empty : (p : Packet) → segmentOf k e ≡ Some p → outcome (c .width) (c .words) (streamOf k g) (segmentAt (g .connection k) p) ≡ Empty → Idle c g e k
 
 -- a sender's segment comes to a stream that is open
 pub record ComesOpen (g : Gate) (p : Bytes) : Type 0 where
@@ -86,7 +84,7 @@ leftIn c g p =
     (pieceLeft (c .width) (streamOf (senderOf p) g) (segIn g p) .bytes) (finLeft (c .width) (streamOf (senderOf p) g) (segIn g p))
 
 pub data Decided (c : Config) (g : Gate) : Event → Verdict → Type 0 where
-  refuses : {e : Event} (n : ℕ) → n < 10 → ((k : Key) → among k (g .keys) ≡ true → Still c (streamOf k g) (arrives k (g .connection k) e)) → Decided c g e (Refuse n)
+  refuses : {e : Event} (n : ℕ) → n < 10 → ((k : Key) → among k (g .keys) ≡ true → Idle c g e k) → Decided c g e (Refuse n)
   elapses : (n : ℕ) → Decided c g (Ticks n) (Elapse n)
   -- to the loom, without a byte
   opening : (p : Bytes) → read p ≡ Ok (packet p) → among (senderOf p) (g .keys) ≡ false → NoArrival g (Comes Outside p) → Bare p → Decided c g (Comes Outside p) (Forward Looms p)
@@ -109,9 +107,11 @@ pub data Decided (c : Config) (g : Gate) : Event → Verdict → Type 0 where
   replies : (p out : Bytes) → read p ≡ Ok (packet p) → among (loomOf p) (g .keys) ≡ false → NoArrival g (Comes Looms p) → Sent p out → Decided c g (Comes Looms p) (Forward Outside out)
   again : (p : Bytes) → read p ≡ Ok (packet p) → Open (loomOf p) g → NoArrival g (Comes Looms p) →
       Decided c g (Comes Looms p) (Update (loomOf p) (active (c .quiet) (streamOf (loomOf p) g) (g .connection (loomOf p))) Outside p)
-  acks : (p out : Bytes) → read p ≡ Ok (packet p) → Open (loomOf p) g → ackOf (loomOf p) (Comes Looms p) ≡ Some (packet p) → Sent p out →
+  acks : (p : Bytes) → read p ≡ Ok (packet p) → Open (loomOf p) g → ackOf (loomOf p) (Comes Looms p) ≡ Some (packet p) →
+      Sent p (lowered (g .connection (loomOf p)) (packet p) (ackedAt (g .connection (loomOf p)) (packet p))) →
       Decided c g (Comes Looms p)
-      (Update (loomOf p) (active (c .quiet) (acknowledgedTo (ackedAt (g .connection (loomOf p)) (packet p)) (streamOf (loomOf p) g)) (g .connection (loomOf p))) Outside out)
+      (Update (loomOf p) (active (c .quiet) (acknowledgedTo (ackedAt (g .connection (loomOf p)) (packet p)) (streamOf (loomOf p) g)) (g .connection (loomOf p))) Outside
+      (lowered (g .connection (loomOf p)) (packet p) (ackedAt (g .connection (loomOf p)) (packet p))))
   begins : (p : Bytes) → Opens g p → NoArrival g (Comes Looms p) → Decided c g (Comes Looms p) (Begin (loomOf p) (begun (c .quiet) (packet p .number) (packet p .acknowledged)) p)
   ends : (p out : Bytes) → read p ≡ Ok (packet p) → Open (loomOf p) g → packet p .rst ≡ true → NoArrival g (Comes Looms p) → Sent p out → Decided c g (Comes Looms p) (End (loomOf p) out)
 
@@ -143,29 +143,10 @@ module _ (p : Bytes) (reads : read p ≡ Ok (packet p)) (k : Key) where
   pub other-ack : (s : Connection) → sameKey k (loomOf p) ≡ false → arrives k s (Comes Looms p) ≡ []
   other-ack s d = ap (arrival s None) (ack-none (and-left (sameKey k (loomOf p)) _ d))
 
-module _ (c : Config) (s : Stream) where
-  pub still-none : (came : List Arrival) → came ≡ [] → Still c s came
-  unfolding steps.run steps.passed steps.fins
-  still-none came n = rw n (record { same = refl; pieces = refl; fins = refl })
-
-  -- one arrival that changes nothing
-  still-one : (a : Arrival) → (steps.step (c .width) (c .words) s a ≡ s) × (steps.passedBy (c .width) (c .words) s a ≡ []) × (steps.finsBy (c .width) (c .words) s a ≡ []) → Still c s (a ∷ [])
-  unfolding steps.run steps.passed steps.fins
-  still-one a h = record { same = h .0; pieces = ap (λ x. x ++ []) (h .1); fins = ap (λ x. x ++ []) (h .2) }
-
-  -- nothing changes a stream that is shut
-  still-shut : s .shut ≡ true → (x : Connection) (k : Key) (e : Event) → Still c s (arrives k x e)
-  still-shut shut x k e = go (segmentOf k e) (ackOf k e)
-    where
-      go : (p q : Option Packet) → Still c s (arrival x p q)
-      go (Some p) q = still-one (Arrives (segmentAt x p)) (stays (c .width) (c .words) s shut (Arrives (segmentAt x p)))
-      go None (Some q) = still-one (Acked (ackedAt x q)) (stays (c .width) (c .words) s shut (Acked (ackedAt x q)))
-      go None None = still-none [] refl
-
 -- What is done
 
 -- a packet without its bytes and without FIN
-no-fin : (m : ℕ) → eqb (withoutFin m % 2) 1 ≡ false
+pub no-fin : (m : ℕ) → eqb (withoutFin m % 2) 1 ≡ false
 no-fin m = ne-eqb (withoutFin m % 2) 1 (omega arith)
 
 module _ (c : Config) (g : Gate) (p : Bytes) (reads : read p ≡ Ok (packet p)) where
@@ -204,13 +185,12 @@ module _ (c : Config) (g : Gate) (p : Bytes) (reads : read p ≡ Ok (packet p)) 
       (⊎-elim (λ none. and-left (packet p .ack) _ none) (λ h. and-right (packet p .ack) _ (marked h)) m)))
 
   refuses-none : {e : Event} (n : ℕ) → n < 10 → NoArrival g e → Decided c g e (Refuse n)
-  refuses-none {e} n l none = refuses n l (λ k held. still-none c (streamOf k g) (arrives k (g .connection k) e) (none k held))
+  refuses-none n l nothing = refuses n l (λ k held. idle-none (nothing k held))
 
-  -- for another stream than that of the packet it brings nothing; what it brings to that one is still
-  refuses-own : (n : ℕ) → n < 10 → Still c (streamOf (senderOf p) g) (arrives (senderOf p) (g .connection (senderOf p)) (Comes Outside p)) → FromSender (Refuse n)
+  -- for another stream than that of the packet it brings nothing
+  refuses-own : (n : ℕ) → n < 10 → Idle c g (Comes Outside p) (senderOf p) → FromSender (Refuse n)
   refuses-own n l own = refuses n l (λ k held.
-      ⊎-elim (λ e. subst (λ (x : Key). Still c (streamOf x g) (arrives x (g .connection x) (Comes Outside p))) (sym (same-key k (senderOf p) e)) own)
-      (λ d. still-none c (streamOf k g) _ (other-segment p reads k (g .connection k) d)) (cases-bool (sameKey k (senderOf p))))
+      ⊎-elim (λ e. subst (Idle c g (Comes Outside p)) (sym (same-key k (senderOf p) e)) own) (λ d. idle-none (other-segment p reads k (g .connection k) d)) (cases-bool (sameKey k (senderOf p))))
 
   segment-decided : ComesOpen g p → FromSender (onSegment c (senderOf p) (g .connection (senderOf p)) (packet p))
   segment-decided came = go (outcomeIn c g p) refl (done (c .width) (c .words) s seg)
@@ -221,14 +201,11 @@ module _ (c : Config) (g : Gate) (p : Bytes) (reads : read p ≡ Ok (packet p)) 
       seg : Segment
       seg = segIn g p
 
-      nothing : outcomeIn c g p ≡ Empty → Still c s (arrives (senderOf p) (g .connection (senderOf p)) (Comes Outside p))
-      nothing e = rw (came .brings) (still-one c s (Arrives seg) (ap (steps.after (c .width) s seg) e, ap steps.piecesOf e, ap steps.finsOf e))
-
       go : (o : Outcome) → outcomeIn c g p ≡ o → Done (c .width) (c .words) s seg o → FromSender (onOutcome c (senderOf p) (g .connection (senderOf p)) (packet p) o)
       go _ e (outcomes.closed shut) = absurd (both-ways _ (came .isOpen .notShut) shut)
       go _ e (outcomes.word up found l) = shuts p came found e
       go _ e (outcomes.empty up l none nofin) =
-          cond-both (packet p .ack) _ (Refuse 9) FromSender (λ _. acksOnly p came e (empty-bare (g .connection (senderOf p)))) (λ _. refuses-own 9 (omega arith) (nothing e))
+          cond-both (packet p .ack) _ (Refuse 9) FromSender (λ _. acksOnly p came e (empty-bare (g .connection (senderOf p)))) (λ _. refuses-own 9 (omega arith) (idle-empty (packet p) (came .segment) e))
       go _ e (outcomes.passes up l) = takes p came e
 
   outside-held : among (senderOf p) (g .keys) ≡ true → FromSender (fromOutside c (senderOf p) (packet p) (Some (g .connection (senderOf p))))
@@ -236,15 +213,15 @@ module _ (c : Config) (g : Gate) (p : Bytes) (reads : read p ≡ Ok (packet p)) 
       cond-both (synAlone (packet p)) (opens c (senderOf p) (packet p) (Some s)) (continues c (senderOf p) (packet p) (Some s)) FromSender
       (λ alone.
       let parts = and-parts (packet p .syn) _ alone in
-      let none = no-segment (inl (parts .0)) in
+      let nothing = no-segment (inl (parts .0)) in
       cond-both (isEmpty (packet p .payload)) _ (Refuse 7) FromSender
-      (λ e. cond-both (s .stream .shut) (Refuse 8) _ FromSender (λ _. refuses-none 8 (omega arith) none)
-      (λ up. bare p p reads (record { held = held; notShut = up }) none asCame
+      (λ e. cond-both (s .stream .shut) (Refuse 8) _ FromSender (λ _. refuses-none 8 (omega arith) nothing)
+      (λ up. bare p p reads (record { held = held; notShut = up }) nothing asCame
       (record { payload = nil-since _ e; fin = not-true _ (and-parts (not (packet p .fin)) _ (parts .1) .0) })))
-      (λ _. refuses-none 7 (omega arith) none))
+      (λ _. refuses-none 7 (omega arith) nothing))
       (λ _. cond-both (packet p .syn) (Refuse 5) _ FromSender (λ syn. refuses-none 5 (omega arith) (no-segment (inl syn)))
       (λ syn. cond-both (s .stream .shut) (Refuse 8) _ FromSender
-      (λ shut. refuses-own 8 (omega arith) (still-shut c (s .stream) shut s (senderOf p) (Comes Outside p)))
+      (λ is. refuses-own 8 (omega arith) (idle-shut is))
       (λ up. cond-both (packet p .rst) _ (onSegment c (senderOf p) s (packet p)) FromSender
       (λ rst. bare p _ reads (record { held = held; notShut = up }) (no-segment (inr rst)) (empty-sent _ _ _) (empty-bare s))
       (λ rst.
@@ -258,12 +235,12 @@ module _ (c : Config) (g : Gate) (p : Bytes) (reads : read p ≡ Ok (packet p)) 
   outside-new new =
       cond-both (synAlone (packet p)) (opens c (senderOf p) (packet p) None) (Refuse 5) FromSender
       (λ alone. cond-both (isEmpty (packet p .payload)) _ (Refuse 7) FromSender
-      (λ e. opening p reads new none (record { payload = nil-since _ e; fin = not-true _ (and-parts (not (packet p .fin)) _ (and-parts (packet p .syn) _ alone .1) .0) }))
-      (λ _. refuses-none 7 (omega arith) none))
-      (λ _. refuses-none 5 (omega arith) none)
+      (λ e. opening p reads new nothing (record { payload = nil-since _ e; fin = not-true _ (and-parts (not (packet p .fin)) _ (and-parts (packet p .syn) _ alone .1) .0) }))
+      (λ _. refuses-none 7 (omega arith) nothing))
+      (λ _. refuses-none 5 (omega arith) nothing)
     where
-      none : NoArrival g (Comes Outside p)
-      none k held = other-segment p reads k (g .connection k) (held-apart k (senderOf p) (g .keys) held new)
+      nothing : NoArrival g (Comes Outside p)
+      nothing k held = other-segment p reads k (g .connection k) (held-apart k (senderOf p) (g .keys) held new)
 
   lowered-sent : (i : Place) → Sent p (lowered (g .connection (loomOf p)) (packet p) i)
   lowered-sent (Below n) = asCame
@@ -272,20 +249,19 @@ module _ (c : Config) (g : Gate) (p : Bytes) (reads : read p ≡ Ok (packet p)) 
   loom-held : (noRoom : Bool) → among (loomOf p) (g .keys) ≡ true → FromItsLoom (fromLoom c (loomOf p) (packet p) noRoom (Some (g .connection (loomOf p))))
   loom-held noRoom held =
       cond-both (s .stream .shut) (Refuse 8) _ FromItsLoom
-      (λ shut. refuses 8 (omega arith) (λ k there.
-      ⊎-elim (λ e. subst (λ (x : Key). Still c (streamOf x g) (arrives x (g .connection x) (Comes Looms p))) (sym (same-key k (loomOf p) e)) (still-shut c (s .stream) shut s (loomOf p) (Comes Looms p)))
-      (λ d. still-none c (streamOf k g) _ (other-ack p reads k (g .connection k) d)) (cases-bool (sameKey k (loomOf p)))))
+      (λ is. refuses 8 (omega arith) (λ k there.
+      ⊎-elim (λ e. subst (Idle c g (Comes Looms p)) (sym (same-key k (loomOf p) e)) (idle-shut is)) (λ d. idle-none (other-ack p reads k (g .connection k) d)) (cases-bool (sameKey k (loomOf p)))))
       (λ up. cond-both (packet p .rst) _ _ FromItsLoom
       (λ rst. ends p _ reads (record { held = held; notShut = up }) rst (no-ack (inr (inr rst))) (empty-sent _ _ _))
       (λ rst. cond-both (packet p .syn && packet p .ack) _ _ FromItsLoom
       (λ both.
-      let none = no-ack (inr (inl (and-parts (packet p .syn) _ both .0))) in
-      cond-both (sameBeginning s (packet p)) _ _ FromItsLoom (λ _. again p reads (record { held = held; notShut = up }) none)
-      (λ new. begins p (record { reads = reads; both = both; rst = rst; new = λ _. (new, up); room = inl held }) none))
+      let nothing = no-ack (inr (inl (and-parts (packet p .syn) _ both .0))) in
+      cond-both (sameBeginning s (packet p)) _ _ FromItsLoom (λ _. again p reads (record { held = held; notShut = up }) nothing)
+      (λ new. begins p (record { reads = reads; both = both; rst = rst; new = λ _. (new, up); room = inl held }) nothing))
       (λ two. cond-both (packet p .ack) _ _ FromItsLoom
       (λ ack.
       let syn : packet p .syn ≡ false = ⊎-elim (λ e. e) (λ e. absurd (both-ways (packet p .ack) e ack)) (and-cases (packet p .syn) (packet p .ack) two) in
-      acks p _ reads (record { held = held; notShut = up })
+      acks p reads (record { held = held; notShut = up })
       (ack-some p reads (loomOf p) (and-from _ _ (key-same (loomOf p)) (and-from _ _ ack (and-from _ _ (not-from-false _ syn) (not-from-false _ rst)))))
       (lowered-sent (ackedAt s (packet p))))
       (λ ack. again p reads (record { held = held; notShut = up }) (no-ack (inl ack))))))
@@ -295,15 +271,15 @@ module _ (c : Config) (g : Gate) (p : Bytes) (reads : read p ≡ Ok (packet p)) 
 
   loom-new : among (loomOf p) (g .keys) ≡ false → FromItsLoom (fromLoom c (loomOf p) (packet p) (full g) None)
   loom-new new =
-      cond-both (packet p .rst) _ _ FromItsLoom (λ _. replies p _ reads new none (empty-sent _ _ _))
+      cond-both (packet p .rst) _ _ FromItsLoom (λ _. replies p _ reads new nothing (empty-sent _ _ _))
       (λ rst. cond-both (packet p .syn && packet p .ack) _ _ FromItsLoom
-      (λ both. cond-both (full g) (Refuse 6) _ FromItsLoom (λ _. refuses-none 6 (omega arith) none)
+      (λ both. cond-both (full g) (Refuse 6) _ FromItsLoom (λ _. refuses-none 6 (omega arith) nothing)
       (λ room. begins p
-      (record { reads = reads; both = both; rst = rst; new = λ held. absurd (both-ways _ new held); room = inr (leb-false 256 (length (g .keys)) room) }) none))
-      (λ _. replies p p reads new none asCame))
+      (record { reads = reads; both = both; rst = rst; new = λ held. absurd (both-ways _ new held); room = inr (leb-false 256 (length (g .keys)) room) }) nothing))
+      (λ _. replies p p reads new nothing asCame))
     where
-      none : NoArrival g (Comes Looms p)
-      none k held = other-ack p reads k (g .connection k) (held-apart k (loomOf p) (g .keys) held new)
+      nothing : NoArrival g (Comes Looms p)
+      nothing k held = other-ack p reads k (g .connection k) (held-apart k (loomOf p) (g .keys) held new)
 
   packet-decided : (side : Side) → Decided c g (Comes side p) (onPacket c g side (packet p))
   packet-decided Outside =
@@ -323,7 +299,7 @@ decided c g (Comes side p) = go (read p) refl
 
     go : (r : Result Packet ℕ) → read p ≡ r → Decided c g (Comes side p) (onRead c g side r)
     go (Err n) e =
-        refuses n (omega (arith, read-refuses p n e)) (λ k held. still-none c (streamOf k g) (arrives k (g .connection k) (Comes side p)) (unread n e side k held))
+        refuses n (omega (arith, read-refuses p n e)) (λ k held. idle-none (unread n e side k held))
     go (Ok q) e =
         let is : q ≡ packet p = read-is p q e in
         rw is (packet-decided c g p (e ∙ ap Ok is) side)

@@ -22,7 +22,7 @@ use Rattle.stream.specs.Steps as steps
 use Rattle.stream.specs.Promise.{Sound, OneText, Source, Agrees}
 use Rattle.stream.specs.Promise as oneStream
 use Rattle.filter.specs.Config.{Config, Side, Outside, Looms, Key, sameKey, keyFrom}
-use Rattle.filter.specs.Gate.{Connection, begun, closed, Gate, among, empty, find, full, put}
+use Rattle.filter.specs.Gate.{Connection, begun, closed, Gate, among, empty, find, full, put, elapsed}
 use Rattle.filter.specs.Verdict.{Event, Comes, Ticks, Verdict, Refuse, Forward, Update, Begin, End, Shut, Elapse, Answer, Out, Refused, Resets, Quiet, refusalOf, outOf, toLooms}
 use Rattle.filter.specs.Decide.{segmentAt, withoutFin, synAlone, ackedAt, sameBeginning, verdict, next, answer, run}
 
@@ -307,6 +307,8 @@ pub record Handled (c : Config) (g : Gate) (e : Event) : Type 0 where
   -- and what is done with it depends on its own stream alone, but for whether there is room for another
   pub alone : (k : Key) → OfStream k e → (h : Gate) → find k h ≡ find k g → full h ≡ full g →
       (answer c h e ≡ answer c g e) × (find k (next c h e) ≡ find k (next c g e))
+  -- ticks go by for each stream, whatever the others are
+  pub ticks : (k : Key) (n : ℕ) → e ≡ Ticks n → find k (next c g e) ≡ elapsed n (find k g)
   -- nothing of a stream that is shut goes out to either side, and nothing but ticks touches it
   pub silent : (k : Key) → OfStream k e → among k (g .keys) ≡ true → streamOf k g .shut ≡ true → (next c g e ≡ g) × (outOf (answer c g e) ≡ [])
   -- what goes out is a right packet

@@ -1,1 +1,2 @@
 // The gate.
+pub mod laws;

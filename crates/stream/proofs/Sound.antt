@@ -12,6 +12,7 @@ use Rattle.std.specs.Finite.{nth}
 use Rattle.std.specs.Options.{isSome}
 use Rattle.std.specs.declared.option.Option.{Option}
 use Rattle.std.specs.declared.option.Option.the-variants.{Some, None}
+use Rattle.std.proofs.shelf.Maps.{nth-getD}
 use Rattle.std.proofs.shelf.Tests.{cond-both, and-parts, leb-true, ltb-true, eqb-true, cases-lt}
 use Rattle.automaton.specs.Text.{Text, has, nonempty}
 use Rattle.automaton.specs.Look.{look}
@@ -35,6 +36,12 @@ blank-sound width words n =
       finWithin = λ f e. absurd (none-some refl e);
       finLast = λ f j e l. refl;
     }
+
+-- the text ends in the window
+pub text-within : (width : ℕ) (words : List Text) (s : Stream) → Sound width words s → length (s .text) ≤ windowEnd width s
+text-within width words s sound =
+    ⊎-elim (λ l. absurd (none-some (sound .above _ (omega arith)) (sound .textKnown _ _ (nth-getD (s .text) (windowEnd width s) 0 l)))) (λ l. l)
+    (cases-lt (windowEnd width s) (length (s .text)))
 
 -- up to a known FIN and up to the window's end
 up-to : (fin : Option ℕ) (n j : ℕ) → j < upTo fin n → (j < n) × ((f : ℕ) → fin ≡ Some f → j < f)
