@@ -88,8 +88,9 @@ pub promise-kept : Promise
 promise-kept c fit =
     record {
       streams = λ before b after k begins stays.
-          let new = found-parts k _ _ (begins-so c (run c empty before) k b begins .fresh) in
-          kept c fit k _ (new .0) (ap (λ (s : Connection). s .stream) (new .1)) after stays;
+          let g : Gate = next c (run c empty before) b in
+          let new = found-parts k g _ (begins-so c (run c empty before) k b begins .fresh) in
+          kept c fit k g (new .0) (ap (λ (s : Connection). s .stream) (new .1)) after stays;
       packets = λ before e. handled c (fit .width) (run c empty before) e;
       syns = λ before p. syn-passes c (run c empty before) p;
       replies = λ before p. reply-passes c (run c empty before) p;
