@@ -10,12 +10,13 @@ use native.Mathlib.Numerals.{add-one}
 use lib.ListN.{length, getD, set, replicate, take, drop}
 use Rattle.std.specs.declared.option.Option.{Option}
 use Rattle.std.specs.declared.option.Option.the-variants.{Some, None}
-use Rattle.std.proofs.shelf.Tests.{or-parts, or-right, or-left, or-from, cond-true, cond-false, cases-bool, cases-eq, cases-lt}
-use Rattle.std.proofs.shelf.Lists.{append-nil, length-map, getD-map, take-more, take-all, length-replicate, getD-replicate, getD-past, getD-set-same, getD-set-other, length-set, length-take-le, length-push, take-append-drop}
+use Rattle.std.proofs.shelf.Tests.{or-parts, or-right, or-left, or-from, cond-true, cond-false, cases-bool, cases-eq, cases-lt, cond-both}
+use Rattle.std.proofs.shelf.Lists.{append-nil, length-map, getD-map, take-more, take-all, length-replicate, getD-replicate, getD-past, getD-set-same, getD-set-other, length-set, length-take-le, length-push, length-append, take-append-drop}
 use Rattle.std.specs.Of.Vec.{vec-items}
 use Rattle.std.specs.declared.vec.Vec.{Vec}
 use Rattle.std.specs.declared.alloc.Global.{Global}
 use Rattle.automaton.specs.Words.{wordsOf}
+use Rattle.automaton.specs.Lists.{total}
 use Rattle.automaton.specs.Text.{Text, beginsSome, same, member}
 use Rattle.automaton.specs.States.{place, inits, initsOf, add, addAll, states}
 use Rattle.automaton.specs.Trie.{reached, grownRows, grownTells, wordAt, placeOr0, onward, Trie, TrieOf}
@@ -253,3 +254,30 @@ put-full vs i v w j s rows tells m l e ew p lj lb lm z =
           (sym (placeOr0-known seen (onward seen s (getD w j 0)) mq) ∙ sym (p .trie .goes s (getD w j 0) (p .within) lb) ∙ z))
       | inr g ↦ g
     ]
+
+-- some of the words have no more states than all of them
+pub states-take : (ws : List Text) (i : ℕ) → length (states (take i ws)) ≤ length (states ws)
+unfolding states
+states-take ws i =
+    let e : addAll (states (take i ws)) (initsOf (drop i ws)) ≡ states ws =
+    sym (addAll-append _ (initsOf (take i ws)) (initsOf (drop i ws))) ∙ ap (addAll _) (sym (initsOf-append (take i ws) (drop i ws)) ∙ ap initsOf (take-append-drop i ws)) in
+    omega (arith, length-addAll (initsOf (drop i ws)) (states (take i ws)), ap length e)
+
+-- there is a state for each byte of the words at most, and the empty one
+length-initsOf : (ws : List Text) → length (initsOf ws) ≡ total ws
+unfolding initsOf total
+length-initsOf [] = refl
+length-initsOf (w ∷ ws) = length-append (inits w) (initsOf ws) ∙ (let e = length-initsOf ws in let l = length-inits w in omega arith)
+
+add-most : (xs : List Text) (p : Text) → length (add xs p) ≤ length xs + 1
+unfolding add
+add-most xs p = cond-both (member p xs) xs (xs ++ (p ∷ [])) (λ (l : List Text). length l ≤ length xs + 1) (λ e. omega arith) (λ e. omega (arith, length-push xs p))
+
+addAll-most : (ps xs : List Text) → length (addAll xs ps) ≤ length xs + length ps
+unfolding addAll
+addAll-most [] xs = omega arith
+addAll-most (p ∷ ps) xs = let h = addAll-most ps (add xs p) in let g = add-most xs p in omega arith
+
+pub states-most : (ws : List Text) → length (states ws) ≤ total ws + 1
+unfolding states
+states-most ws = let h = addAll-most (initsOf ws) ([] ∷ []) in omega (arith, length-initsOf ws)

@@ -3,8 +3,10 @@ pub mod States
 pub mod Trie
 pub mod Words
 pub mod Link
+pub mod Lists
+pub mod ReadList
 pub mod Look
 pub mod LookLaw
 pub mod Scanned
-pub mod Refusals
+pub mod Tables
 pub mod Promise

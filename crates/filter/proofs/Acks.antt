@@ -18,7 +18,7 @@ use Rattle.packet.specs.Packet.{Packet, packet, read}
 use Rattle.packet.proofs.WriteLaws.{sent-right}
 use Rattle.sequence.specs.Places.{Place, Below, At, numberOf, placeOf}
 use Rattle.sequence.proofs.PlaceLaws.{place-back}
-use Rattle.window.proofs.KnownLaws.{none-some}
+use Rattle.window.proofs.PieceLaws.{none-some}
 use Rattle.stream.specs.Stream.{Stream, noneElsewhere, ackLimit, acknowledgedTo}
 use Rattle.stream.specs.Steps.{Arrival}
 use Rattle.stream.specs.Promise.{Sound}

@@ -12,7 +12,7 @@ use Rattle.std.specs.declared.result.Result.the-variants.{Ok}
 use Rattle.std.proofs.shelf.Tests.{both-ways, cond-both, cond-true, cond-false, and-parts}
 use Rattle.packet.specs.Bytes.{Bytes}
 use Rattle.packet.specs.Packet.{Packet, packet, read}
-use Rattle.window.proofs.KnownLaws.{none-some}
+use Rattle.window.proofs.PieceLaws.{none-some}
 use Rattle.stream.specs.Steps.{Arrival}
 use Rattle.filter.specs.Config.{Config, Outside, Looms, Key, sameKey}
 use Rattle.filter.specs.Gate.{Connection, Gate, among, put}

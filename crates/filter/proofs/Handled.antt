@@ -19,7 +19,7 @@ use Rattle.packet.specs.Laws.{Fresh, Sent, asCame, rewritten}
 use Rattle.packet.proofs.ReadLaws.{read-is}
 use Rattle.packet.proofs.WriteLaws.{sent-right}
 use Rattle.packet.proofs.ResetLaws.{reset-reads, reset-fresh, reset-is}
-use Rattle.window.proofs.KnownLaws.{none-some}
+use Rattle.window.proofs.PieceLaws.{none-some}
 use Rattle.stream.specs.Steps.{Word}
 use Rattle.filter.specs.Config.{Config, Side, Outside, Looms, Key, sameKey, keyFrom}
 use Rattle.filter.specs.Gate.{Connection, begun, aged, closed, Gate, among, only, find, full, put, remove, elapse, elapsed}

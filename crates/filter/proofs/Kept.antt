@@ -10,7 +10,7 @@ use Rattle.std.proofs.shelf.Tests.{both-ways, cond-both}
 use Rattle.automaton.specs.Text.{Text}
 use Rattle.packet.specs.Packet.{Packet, packet}
 use Rattle.window.specs.Known.{Piece}
-use Rattle.window.proofs.KnownLaws.{none-some}
+use Rattle.window.proofs.PieceLaws.{none-some}
 use Rattle.stream.specs.Stream.{Stream, blank}
 use Rattle.stream.specs.Steps as steps
 use Rattle.stream.specs.Promise.{Sound, OneText, Source}

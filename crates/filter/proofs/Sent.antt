@@ -20,7 +20,7 @@ use Rattle.packet.proofs.WriteLaws.{sent-right}
 use Rattle.sequence.specs.Places.{Place, Below, At, numberOf, placeOf, placeAfter}
 use Rattle.sequence.proofs.PlaceLaws.{place-back}
 use Rattle.window.specs.Known.{Piece}
-use Rattle.window.proofs.KnownLaws.{none-some, length-overlay}
+use Rattle.window.proofs.PieceLaws.{none-some, length-overlay}
 use Rattle.stream.specs.Stream.{pieceAt, upTo, windowEnd, inner}
 use Rattle.stream.specs.Steps.{Segment, pieceOf, finAt, pieceLeft, finLeft, pieceIn, finIn}
 use Rattle.stream.specs.Promise.{Sound, FinFits}

@@ -14,7 +14,7 @@ use Rattle.std.proofs.shelf.Maps.{nth-getD}
 use Rattle.std.proofs.shelf.Tests.{cases-lt}
 use Rattle.automaton.specs.Text.{Text}
 use Rattle.window.specs.Known.{Piece, byteOf, byteOr}
-use Rattle.window.proofs.KnownLaws.{none-some, none-since, from, from-start, start-from, head-from, rest-from, or-either, learn-from, cut-inside}
+use Rattle.window.proofs.PieceLaws.{none-some, none-since, from, from-start, start-from, head-from, rest-from, or-either, learn-from, cut-inside}
 use Rattle.stream.specs.Stream.{Stream, blank, upTo, windowEnd, inner, nextKnown}
 use Rattle.stream.specs.Steps.{Segment, Arrival, Arrives, Acked, pieceOf, finAt, Outcome, outcome, after, step, passedBy, finsBy, run}
 use Rattle.stream.specs.Promise.{Sound, FinFits, WordCame, Source, BeforeEnd, Says, Agrees, Honest, front, FrontOf, PassedOn, GoesOut}

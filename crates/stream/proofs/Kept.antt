@@ -11,7 +11,7 @@ use Rattle.std.proofs.shelf.Tests.{cases-lt}
 use Rattle.automaton.specs.Text.{Text, has, nonempty}
 use Rattle.automaton.proofs.LookLaws.{has-first}
 use Rattle.window.specs.Known.{Piece, byteOf}
-use Rattle.window.proofs.KnownLaws.{none-some, Extends}
+use Rattle.window.proofs.PieceLaws.{none-some, Extends}
 use Rattle.stream.specs.Stream.{Stream, blank}
 use Rattle.stream.specs.Steps.{Arrival, Arrives, run, passed, fins}
 use Rattle.stream.specs.Machine.{Given}

@@ -17,7 +17,7 @@ use Rattle.automaton.specs.Look.{Found, look}
 use Rattle.automaton.proofs.LookLaws.{look-law}
 use Rattle.sequence.specs.Places.{Place, Below, At}
 use Rattle.window.specs.Known.{Piece, byteOf, byteOr, learn, orElse, overlay, onwards}
-use Rattle.window.proofs.KnownLaws.{none-some, head-from, from-nil, learn-keeps, learn-from, overlay-at, overlay-from, known-none, cut-inside, inside-cut, cut-again}
+use Rattle.window.proofs.PieceLaws.{none-some, head-from, from-nil, learn-keeps, learn-from, overlay-at, overlay-from, known-none, cut-inside, inside-cut, cut-again}
 use Rattle.stream.specs.Stream.{Stream, upTo, windowEnd, inner, nextKnown, newText, noneElsewhere, finFits, keptFin, acknowledgedTo}
 use Rattle.stream.specs.Steps.{Segment, Arrival, Arrives, Acked, pieceOf, finAt, finLeft, pieceLeft, Outcome, Passed, Empty, Word, Closed, onLook, outcome, after, step, pieceIn, finIn, piecesOf, finsOf, passedBy, finsBy}
 use Rattle.stream.specs.Promise.{FirstPart, Sound, Inner, Came, FinFits, PassedOn, WordCame, Next}
