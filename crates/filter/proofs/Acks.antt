@@ -1,9 +1,9 @@
 -- Acknowledged numbers of the loom go out as they came, or lowered to what was passed on without a gap.
 -- Assumes nothing.
 use mathlib.Core.Path.{_≡_, refl, sym, _∙_, ap, subst}
-use mathlib.Core.Bool.{true, false, cond, _&&_, not}
-use mathlib.Core.List.{List, [], _∷_}
-use Prim.Native.Nat.{ℕ, _+_, _%_, _<_, _≤_, min}
+use mathlib.Core.Bool.{_&&_, not}
+use mathlib.Core.List.{List, []}
+use Prim.Native.Nat.{ℕ, _+_, _%_, _≤_, min}
 use native.Mathlib.Omega.{arith}
 use lib.Dec.{leb}
 use lib.ListN.{length}
@@ -20,11 +20,10 @@ use Rattle.sequence.specs.Places.{Place, Below, At, numberOf, placeOf}
 use Rattle.sequence.proofs.PlaceLaws.{place-back}
 use Rattle.window.proofs.PieceLaws.{none-some}
 use Rattle.stream.specs.Stream.{Stream, noneElsewhere, ackLimit, acknowledgedTo}
-use Rattle.stream.specs.Steps.{Arrival}
 use Rattle.stream.specs.Promise.{Sound}
 use Rattle.stream.proofs.Sound.{text-within}
 use Rattle.filter.specs.Config.{Config, Outside, Looms, Key, sameKey}
-use Rattle.filter.specs.Gate.{Connection, active, Gate, among}
+use Rattle.filter.specs.Gate.{Connection, active, Gate}
 use Rattle.filter.specs.Verdict.{Event, Comes, Ticks, Verdict, apply, answerOf}
 use Rattle.filter.specs.Decide.{ackedAt, lowered, acknowledges, next, verdict}
 use Rattle.filter.specs.Promise.{streamOf, segmentOf, ackOf, ackRead, arrival, arrives, Acknowledged}
@@ -85,25 +84,25 @@ module _ (c : Config) (g : Gate) (k : Key) where
   not-both (Comes Looms raw) p q s a = none-some refl s
 
   brings : (e : Event) (v : Verdict) → Decided c g e v → (q : Packet) → ackOf k e ≡ Some q → Open k g → Brings c g k v q
-  brings e _ (Decided.refuses n l why) q came o = absurd (idle (why k (o .held)))
+  brings _ _ (Decided.refuses side p n l why) q came o = absurd (idle (why k (o .held)))
     where
-      idle : Decided.Idle c g e k → ⊥
-      idle (Decided.idle-none none) = comes-some e q none came
+      idle : Decided.Idle c g (Comes side p) k → ⊥
+      idle (Decided.idle-none none) = comes-some (Comes side p) q none came
       idle (Decided.idle-shut shut) = both-ways _ (o .notShut) shut
-      idle (Decided.idle-empty p s is) = not-both e p q s came
+      idle (Decided.idle-empty segment s is) = not-both (Comes side p) segment q s came
   brings _ _ (Decided.elapses n) q came o = absurd (none-some refl came)
-  brings _ _ (Decided.opening p r new n m) q came o = absurd (none-some refl came)
-  brings _ _ (Decided.bare p out r w n t m) q came o = absurd (none-some refl came)
+  brings _ _ (Decided.opening p r new n m alone) q came o = absurd (none-some refl came)
+  brings _ _ (Decided.bare p out r w n t x m) q came o = absurd (none-some refl came)
   brings _ _ (Decided.takes p w is) q came o = absurd (none-some refl came)
   brings _ _ (Decided.acksOnly p w is m) q came o = absurd (none-some refl came)
   brings _ _ (Decided.shuts p w found is) q came o = absurd (none-some refl came)
-  brings _ _ (Decided.replies p out r new n t) q came o = absurd (comes-some (Comes Looms p) q (n k (o .held)) came)
+  brings _ _ (Decided.replies p out r new n t x) q came o = absurd (comes-some (Comes Looms p) q (n k (o .held)) came)
   brings _ _ (Decided.again p r w n) q came o = absurd (comes-some (Comes Looms p) q (n k (o .held)) came)
-  brings _ _ (Decided.acks p r w own t) q came o =
+  brings _ _ (Decided.acks p r w own t x) q came o =
       let both = ack-came k p q r came in
       subst (λ (x : Key). Brings c g x (acknowledges c (loomOf p) (g .connection (loomOf p)) (packet p)) q) (sym (both .0)) (record { raw = p; reads = r; is = sym (both .1); done = ap (acknowledges c (loomOf p) (g .connection (loomOf p))) (both .1) })
   brings _ _ (Decided.begins p w n) q came o = absurd (comes-some (Comes Looms p) q (n k (o .held)) came)
-  brings _ _ (Decided.ends p out r w rst n t) q came o = absurd (comes-some (Comes Looms p) q (n k (o .held)) came)
+  brings _ _ (Decided.ends p out r w rst n t x) q came o = absurd (comes-some (Comes Looms p) q (n k (o .held)) came)
 
   module _ (small : c .width ≤ 65536) (sound : Sound (c .width) (c .words) (streamOf k g)) where
     abbrev s : Connection

@@ -2,9 +2,9 @@
 -- Assumes nothing.
 use mathlib.Core.Path.{_≡_, refl, sym, _∙_, ap, subst}
 use mathlib.Core.Bool.{Bool, true, false, _&&_, not}
-use mathlib.Core.List.{List, [], _∷_, _++_}
+use mathlib.Core.List.{[], _∷_}
 use mathlib.Core.Logic.{_⊎_, inl, inr, ⊎-elim}
-use Prim.Native.Nat.{ℕ, _*_, _/_, _%_, _<_, _≤_}
+use Prim.Native.Nat.{ℕ, _%_, _<_}
 use native.Mathlib.Omega.{arith}
 use lib.Dec.{eqb, leb}
 use lib.ListN.{length}
@@ -21,14 +21,14 @@ use Rattle.packet.proofs.ReadLaws.{read-is, read-refuses}
 use Rattle.packet.proofs.WriteLaws.{sent-right}
 use Rattle.sequence.specs.Places.{Place, Below, At}
 use Rattle.stream.specs.Stream.{Stream, taken, ackLimit, acknowledgedTo}
-use Rattle.stream.specs.Steps.{Arrival, Arrives, Acked, Segment, pieceOf, pieceLeft, finLeft, Outcome, Passed, Empty, Word, Closed, isEmpty, outcome}
+use Rattle.stream.specs.Steps.{Arrives, Segment, pieceOf, pieceLeft, finLeft, Outcome, Passed, Empty, Word, isEmpty, outcome}
 use Rattle.stream.proofs.Outcomes.{Done, done}
 use Rattle.stream.proofs.Outcomes as outcomes
-use Rattle.filter.specs.Config.{Config, Side, Outside, Looms, Key, sameKey, keyFrom}
+use Rattle.filter.specs.Config.{Config, Side, Outside, Looms, opposite, Key, sameKey, keyFrom}
 use Rattle.filter.specs.Gate.{Connection, begun, active, closed, Gate, among, full}
 use Rattle.filter.specs.Verdict.{Event, Comes, Ticks, Verdict, Refuse, Forward, Update, Begin, End, Shut, Elapse}
-use Rattle.filter.specs.Decide.{segmentAt, withoutFin, packetLeft, advanced, resetToLoom, resetToSender, onOutcome, onSegment, synAlone, opens, continues, fromOutside, ackedAt, lowered, sameBeginning, bareReset, fromLoom, opensWithBytes, onPacket, onRead, verdict}
-use Rattle.filter.specs.Promise.{streamOf, segmentOf, segmentRead, ackOf, ackRead, arrives, arrival}
+use Rattle.filter.specs.Decide.{segmentAt, withoutFin, marksLeft, packetLeft, advanced, resetToLoom, resetToSender, onOutcome, onSegment, synAlone, opens, continues, fromOutside, ackedAt, lowered, sameBeginning, fromLoom, opensWithBytes, onPacket, onRead, verdict}
+use Rattle.filter.specs.Promise.{streamOf, segmentOf, segmentRead, ackOf, ackRead, arrives, arrival, KeepsOwn, Crosses}
 use Rattle.filter.proofs.Keys.{key-same, same-key, held-apart}
 
 abbrev pub senderOf : Bytes → Key
@@ -84,11 +84,12 @@ leftIn c g p =
     (pieceLeft (c .width) (streamOf (senderOf p) g) (segIn g p) .bytes) (finLeft (c .width) (streamOf (senderOf p) g) (segIn g p))
 
 pub data Decided (c : Config) (g : Gate) : Event → Verdict → Type 0 where
-  refuses : {e : Event} (n : ℕ) → n < 10 → ((k : Key) → among k (g .keys) ≡ true → Idle c g e k) → Decided c g e (Refuse n)
+  refuses : (side : Side) (p : Bytes) (n : ℕ) → n < 10 → ((k : Key) → among k (g .keys) ≡ true → Idle c g (Comes side p) k) → Decided c g (Comes side p) (Refuse n)
   elapses : (n : ℕ) → Decided c g (Ticks n) (Elapse n)
   -- to the loom, without a byte
-  opening : (p : Bytes) → read p ≡ Ok (packet p) → among (senderOf p) (g .keys) ≡ false → NoArrival g (Comes Outside p) → Bare p → Decided c g (Comes Outside p) (Forward Looms p)
-  bare : (p out : Bytes) → read p ≡ Ok (packet p) → Open (senderOf p) g → NoArrival g (Comes Outside p) → Sent p out → Bare out →
+  opening : (p : Bytes) → read p ≡ Ok (packet p) → among (senderOf p) (g .keys) ≡ false → NoArrival g (Comes Outside p) → Bare p → synAlone (packet p) ≡ true →
+      Decided c g (Comes Outside p) (Forward Looms p)
+  bare : (p out : Bytes) → read p ≡ Ok (packet p) → Open (senderOf p) g → NoArrival g (Comes Outside p) → Sent p out → Crosses Outside p Looms out → Bare out →
       Decided c g (Comes Outside p) (Update (senderOf p) (active (c .quiet) (streamOf (senderOf p) g) (g .connection (senderOf p))) Looms out)
   -- a segment
   takes : (p : Bytes) → ComesOpen g p →
@@ -104,16 +105,19 @@ pub data Decided (c : Config) (g : Gate) : Event → Verdict → Type 0 where
       Decided c g (Comes Outside p)
       (Shut (senderOf p) (closed (g .connection (senderOf p))) (resetToLoom (senderOf p) (g .connection (senderOf p))) (resetToSender (senderOf p) (g .connection (senderOf p))) found)
   -- to the outside
-  replies : (p out : Bytes) → read p ≡ Ok (packet p) → among (loomOf p) (g .keys) ≡ false → NoArrival g (Comes Looms p) → Sent p out → Decided c g (Comes Looms p) (Forward Outside out)
+  replies : (p out : Bytes) → read p ≡ Ok (packet p) → among (loomOf p) (g .keys) ≡ false → NoArrival g (Comes Looms p) → Sent p out → Crosses Looms p Outside out →
+      Decided c g (Comes Looms p) (Forward Outside out)
   again : (p : Bytes) → read p ≡ Ok (packet p) → Open (loomOf p) g → NoArrival g (Comes Looms p) →
       Decided c g (Comes Looms p) (Update (loomOf p) (active (c .quiet) (streamOf (loomOf p) g) (g .connection (loomOf p))) Outside p)
   acks : (p : Bytes) → read p ≡ Ok (packet p) → Open (loomOf p) g → ackOf (loomOf p) (Comes Looms p) ≡ Some (packet p) →
       Sent p (lowered (g .connection (loomOf p)) (packet p) (ackedAt (g .connection (loomOf p)) (packet p))) →
+      Crosses Looms p Outside (lowered (g .connection (loomOf p)) (packet p) (ackedAt (g .connection (loomOf p)) (packet p))) →
       Decided c g (Comes Looms p)
       (Update (loomOf p) (active (c .quiet) (acknowledgedTo (ackedAt (g .connection (loomOf p)) (packet p)) (streamOf (loomOf p) g)) (g .connection (loomOf p))) Outside
       (lowered (g .connection (loomOf p)) (packet p) (ackedAt (g .connection (loomOf p)) (packet p))))
   begins : (p : Bytes) → Opens g p → NoArrival g (Comes Looms p) → Decided c g (Comes Looms p) (Begin (loomOf p) (begun (c .quiet) (packet p .number) (packet p .acknowledged)) p)
-  ends : (p out : Bytes) → read p ≡ Ok (packet p) → Open (loomOf p) g → packet p .rst ≡ true → NoArrival g (Comes Looms p) → Sent p out → Decided c g (Comes Looms p) (End (loomOf p) out)
+  ends : (p out : Bytes) → read p ≡ Ok (packet p) → Open (loomOf p) g → packet p .rst ≡ true → NoArrival g (Comes Looms p) → Sent p out → Crosses Looms p Outside out →
+      Decided c g (Comes Looms p) (End (loomOf p) out)
 
 -- What an event brings to a stream
 
@@ -142,6 +146,37 @@ module _ (p : Bytes) (reads : read p ≡ Ok (packet p)) (k : Key) where
 
   pub other-ack : (s : Connection) → sameKey k (loomOf p) ≡ false → arrives k s (Comes Looms p) ≡ []
   other-ack s d = ap (arrival s None) (ack-none (and-left (sameKey k (loomOf p)) _ d))
+
+-- A packet goes out to the other side
+
+pub as-came : (side : Side) (p : Bytes) → Crosses side p (opposite side) p
+as-came side p = record { across = refl; source = refl; sourcePort = refl; destination = refl; destinationPort = refl; keeps = own side }
+  where
+    own : (side : Side) → KeepsOwn side p p
+    own Outside = (refl, inl refl)
+    own Looms = (refl, refl, inl refl)
+
+module _ (p : Bytes) (reads : read p ≡ Ok (packet p)) where
+  pub sender-crosses : (n : ℕ) (fin : Option ℕ) (t : Bytes) → Crosses Outside p Looms (rewrite (packet p) n (packet p .acknowledged) (marksLeft (packet p) fin) t)
+  sender-crosses n fin t =
+      let r = sent-right .fields p reads n (packet p .acknowledged) (marksLeft (packet p) fin) t in
+      record { across = refl; source = r .source; sourcePort = r .sourcePort; destination = r .destination; destinationPort = r .destinationPort; keeps = (omega (arith, r .acknowledged), marks fin (r .marks)) }
+    where
+      marks : (fin : Option ℕ) {m : ℕ} → m ≡ marksLeft (packet p) fin → (m ≡ packet p .marks) ⊎ (m ≡ withoutFin (packet p .marks))
+      marks None e = inr e
+      marks (Some f) e = inl e
+
+  loom-crosses : (a : ℕ) (t : Bytes) → (t ≡ packet p .payload) ⊎ (packet p .rst ≡ true) → Crosses Looms p Outside (rewrite (packet p) (packet p .number) a (packet p .marks) t)
+  loom-crosses a t own =
+      let r = sent-right .fields p reads (packet p .number) a (packet p .marks) t in
+      record {
+        across = refl;
+        source = r .source;
+        sourcePort = r .sourcePort;
+        destination = r .destination;
+        destinationPort = r .destinationPort;
+        keeps = (omega (arith, r .number), r .marks, ⊎-elim (λ e. inl (r .payload ∙ e)) inr own);
+      }
 
 -- What is done
 
@@ -184,12 +219,12 @@ module _ (c : Config) (g : Gate) (p : Bytes) (reads : read p ≡ Ok (packet p)) 
       ap (arrival (g .connection k) None) (ack-none p reads k (and-right (sameKey k (loomOf p)) _
       (⊎-elim (λ none. and-left (packet p .ack) _ none) (λ h. and-right (packet p .ack) _ (marked h)) m)))
 
-  refuses-none : {e : Event} (n : ℕ) → n < 10 → NoArrival g e → Decided c g e (Refuse n)
-  refuses-none n l nothing = refuses n l (λ k held. idle-none (nothing k held))
+  refuses-none : {side : Side} (n : ℕ) → n < 10 → NoArrival g (Comes side p) → Decided c g (Comes side p) (Refuse n)
+  refuses-none {side} n l nothing = refuses side p n l (λ k held. idle-none (nothing k held))
 
   -- for another stream than that of the packet it brings nothing
   refuses-own : (n : ℕ) → n < 10 → Idle c g (Comes Outside p) (senderOf p) → FromSender (Refuse n)
-  refuses-own n l own = refuses n l (λ k held.
+  refuses-own n l own = refuses Outside p n l (λ k held.
       ⊎-elim (λ e. subst (Idle c g (Comes Outside p)) (sym (same-key k (senderOf p) e)) own) (λ d. idle-none (other-segment p reads k (g .connection k) d)) (cases-bool (sameKey k (senderOf p))))
 
   segment-decided : ComesOpen g p → FromSender (onSegment c (senderOf p) (g .connection (senderOf p)) (packet p))
@@ -216,14 +251,14 @@ module _ (c : Config) (g : Gate) (p : Bytes) (reads : read p ≡ Ok (packet p)) 
       let nothing = no-segment (inl (parts .0)) in
       cond-both (isEmpty (packet p .payload)) _ (Refuse 7) FromSender
       (λ e. cond-both (s .stream .shut) (Refuse 8) _ FromSender (λ _. refuses-none 8 (omega arith) nothing)
-      (λ up. bare p p reads (record { held = held; notShut = up }) nothing asCame
+      (λ up. bare p p reads (record { held = held; notShut = up }) nothing asCame (as-came Outside p)
       (record { payload = nil-since _ e; fin = not-true _ (and-parts (not (packet p .fin)) _ (parts .1) .0) })))
       (λ _. refuses-none 7 (omega arith) nothing))
       (λ _. cond-both (packet p .syn) (Refuse 5) _ FromSender (λ syn. refuses-none 5 (omega arith) (no-segment (inl syn)))
       (λ syn. cond-both (s .stream .shut) (Refuse 8) _ FromSender
       (λ is. refuses-own 8 (omega arith) (idle-shut is))
       (λ up. cond-both (packet p .rst) _ (onSegment c (senderOf p) s (packet p)) FromSender
-      (λ rst. bare p _ reads (record { held = held; notShut = up }) (no-segment (inr rst)) (empty-sent _ _ _) (empty-bare s))
+      (λ rst. bare p _ reads (record { held = held; notShut = up }) (no-segment (inr rst)) (empty-sent _ _ _) (sender-crosses p reads _ None []) (empty-bare s))
       (λ rst.
       let is = segment-some p reads (senderOf p) (and-from _ _ (key-same (senderOf p)) (and-from _ _ (not-from-false _ syn) (not-from-false _ rst))) in
       segment-decided (record { reads = reads; isOpen = record { held = held; notShut = up }; brings = ap (λ x. arrival s x None) is; segment = is })))))
@@ -235,7 +270,7 @@ module _ (c : Config) (g : Gate) (p : Bytes) (reads : read p ≡ Ok (packet p)) 
   outside-new new =
       cond-both (synAlone (packet p)) (opens c (senderOf p) (packet p) None) (Refuse 5) FromSender
       (λ alone. cond-both (isEmpty (packet p .payload)) _ (Refuse 7) FromSender
-      (λ e. opening p reads new nothing (record { payload = nil-since _ e; fin = not-true _ (and-parts (not (packet p .fin)) _ (and-parts (packet p .syn) _ alone .1) .0) }))
+      (λ e. opening p reads new nothing (record { payload = nil-since _ e; fin = not-true _ (and-parts (not (packet p .fin)) _ (and-parts (packet p .syn) _ alone .1) .0) }) alone)
       (λ _. refuses-none 7 (omega arith) nothing))
       (λ _. refuses-none 5 (omega arith) nothing)
     where
@@ -246,13 +281,18 @@ module _ (c : Config) (g : Gate) (p : Bytes) (reads : read p ≡ Ok (packet p)) 
   lowered-sent (Below n) = asCame
   lowered-sent (At i) = cond-both (leb i (ackLimit (streamOf (loomOf p) g))) p _ (Sent p) (λ _. asCame) (λ _. rewritten _ _ _ (packet p .payload) (omega arith))
 
+  lowered-crosses : (i : Place) → Crosses Looms p Outside (lowered (g .connection (loomOf p)) (packet p) i)
+  lowered-crosses (Below n) = as-came Looms p
+  lowered-crosses (At i) =
+      cond-both (leb i (ackLimit (streamOf (loomOf p) g))) p _ (Crosses Looms p Outside) (λ _. as-came Looms p) (λ _. loom-crosses p reads _ (packet p .payload) (inl refl))
+
   loom-held : (noRoom : Bool) → among (loomOf p) (g .keys) ≡ true → FromItsLoom (fromLoom c (loomOf p) (packet p) noRoom (Some (g .connection (loomOf p))))
   loom-held noRoom held =
       cond-both (s .stream .shut) (Refuse 8) _ FromItsLoom
-      (λ is. refuses 8 (omega arith) (λ k there.
+      (λ is. refuses Looms p 8 (omega arith) (λ k there.
       ⊎-elim (λ e. subst (Idle c g (Comes Looms p)) (sym (same-key k (loomOf p) e)) (idle-shut is)) (λ d. idle-none (other-ack p reads k (g .connection k) d)) (cases-bool (sameKey k (loomOf p)))))
       (λ up. cond-both (packet p .rst) _ _ FromItsLoom
-      (λ rst. ends p _ reads (record { held = held; notShut = up }) rst (no-ack (inr (inr rst))) (empty-sent _ _ _))
+      (λ rst. ends p _ reads (record { held = held; notShut = up }) rst (no-ack (inr (inr rst))) (empty-sent _ _ _) (loom-crosses p reads _ [] (inr rst)))
       (λ rst. cond-both (packet p .syn && packet p .ack) _ _ FromItsLoom
       (λ both.
       let nothing = no-ack (inr (inl (and-parts (packet p .syn) _ both .0))) in
@@ -263,7 +303,7 @@ module _ (c : Config) (g : Gate) (p : Bytes) (reads : read p ≡ Ok (packet p)) 
       let syn : packet p .syn ≡ false = ⊎-elim (λ e. e) (λ e. absurd (both-ways (packet p .ack) e ack)) (and-cases (packet p .syn) (packet p .ack) two) in
       acks p reads (record { held = held; notShut = up })
       (ack-some p reads (loomOf p) (and-from _ _ (key-same (loomOf p)) (and-from _ _ ack (and-from _ _ (not-from-false _ syn) (not-from-false _ rst)))))
-      (lowered-sent (ackedAt s (packet p))))
+      (lowered-sent (ackedAt s (packet p))) (lowered-crosses (ackedAt s (packet p))))
       (λ ack. again p reads (record { held = held; notShut = up }) (no-ack (inl ack))))))
     where
       s : Connection
@@ -271,12 +311,12 @@ module _ (c : Config) (g : Gate) (p : Bytes) (reads : read p ≡ Ok (packet p)) 
 
   loom-new : among (loomOf p) (g .keys) ≡ false → FromItsLoom (fromLoom c (loomOf p) (packet p) (full g) None)
   loom-new new =
-      cond-both (packet p .rst) _ _ FromItsLoom (λ _. replies p _ reads new nothing (empty-sent _ _ _))
+      cond-both (packet p .rst) _ _ FromItsLoom (λ rst. replies p _ reads new nothing (empty-sent _ _ _) (loom-crosses p reads _ [] (inr rst)))
       (λ rst. cond-both (packet p .syn && packet p .ack) _ _ FromItsLoom
       (λ both. cond-both (full g) (Refuse 6) _ FromItsLoom (λ _. refuses-none 6 (omega arith) nothing)
       (λ room. begins p
       (record { reads = reads; both = both; rst = rst; new = λ held. absurd (both-ways _ new held); room = inr (leb-false 256 (length (g .keys)) room) }) nothing))
-      (λ _. replies p p reads new nothing asCame))
+      (λ _. replies p p reads new nothing asCame (as-came Looms p)))
     where
       nothing : NoArrival g (Comes Looms p)
       nothing k held = other-ack p reads k (g .connection k) (held-apart k (loomOf p) (g .keys) held new)
@@ -299,7 +339,7 @@ decided c g (Comes side p) = go (read p) refl
 
     go : (r : Result Packet ℕ) → read p ≡ r → Decided c g (Comes side p) (onRead c g side r)
     go (Err n) e =
-        refuses n (omega (arith, read-refuses p n e)) (λ k held. idle-none (unread n e side k held))
+        refuses side p n (omega (arith, read-refuses p n e)) (λ k held. idle-none (unread n e side k held))
     go (Ok q) e =
         let is : q ≡ packet p = read-is p q e in
         rw is (packet-decided c g p (e ∙ ap Ok is) side)

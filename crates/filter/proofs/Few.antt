@@ -54,18 +54,18 @@ only-held : (test : Key → Bool) (ks : List Key) → Held ks → Held (only tes
 only-held test ks h = record { few = omega (arith, only-fewer test ks, h .few); distinct = only-distinct test ks (h .distinct) }
 
 next-held : (c : Config) (g : Gate) (e : Event) (v : Verdict) → Decided c g e v → Held (g .keys) → Held (apply v g .keys)
-next-held c g e _ (Decided.refuses n l why) held = held
+next-held c g _ _ (Decided.refuses side p n l why) held = held
 next-held c g _ _ (Decided.elapses n) held = only-held (λ x. ltb n (g .connection x .left)) (g .keys) held
-next-held c g _ _ (Decided.opening p r new n m) held = held
-next-held c g _ _ (Decided.bare p out r w n t m) held = put-held (senderOf p) (g .keys) (inl (w .held)) held
+next-held c g _ _ (Decided.opening p r new n m alone) held = held
+next-held c g _ _ (Decided.bare p out r w n t x m) held = put-held (senderOf p) (g .keys) (inl (w .held)) held
 next-held c g _ _ (Decided.takes p w is) held = put-held (senderOf p) (g .keys) (inl (w .isOpen .held)) held
 next-held c g _ _ (Decided.acksOnly p w is m) held = put-held (senderOf p) (g .keys) (inl (w .isOpen .held)) held
 next-held c g _ _ (Decided.shuts p w found is) held = put-held (senderOf p) (g .keys) (inl (w .isOpen .held)) held
-next-held c g _ _ (Decided.replies p out r new n t) held = held
+next-held c g _ _ (Decided.replies p out r new n t x) held = held
 next-held c g _ _ (Decided.again p r w n) held = put-held (loomOf p) (g .keys) (inl (w .held)) held
-next-held c g _ _ (Decided.acks p r w own t) held = put-held (loomOf p) (g .keys) (inl (w .held)) held
+next-held c g _ _ (Decided.acks p r w own t x) held = put-held (loomOf p) (g .keys) (inl (w .held)) held
 next-held c g _ _ (Decided.begins p w n) held = put-held (loomOf p) (g .keys) (w .room) held
-next-held c g _ _ (Decided.ends p out r w rst n t) held = only-held (λ x. not (sameKey x (loomOf p))) (g .keys) held
+next-held c g _ _ (Decided.ends p out r w rst n t x) held = only-held (λ x. not (sameKey x (loomOf p))) (g .keys) held
 
 run-held : (c : Config) (g : Gate) (es : List Event) → Held (g .keys) → Held (run c g es .keys)
 unfolding run

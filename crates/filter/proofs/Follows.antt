@@ -1,22 +1,20 @@
 -- What an event does to a stream is what the stream's steps do with what it brings.
 -- Assumes nothing.
-use mathlib.Core.Path.{_≡_, refl, sym, _∙_, ap, ap₂, subst}
-use mathlib.Core.Bool.{true, false, cond}
-use mathlib.Core.List.{List, [], _∷_, _++_}
-use Prim.Native.Nat.{ℕ, _≤_, _%_}
+use mathlib.Core.Path.{_≡_, refl, sym, _∙_, ap, subst}
+use mathlib.Core.Bool.{true, false}
+use mathlib.Core.List.{[], _∷_}
+use Prim.Native.Nat.{_≤_, _%_}
 use lib.Dec.{eqb}
 use Rattle.std.specs.declared.option.Option.{Option}
 use Rattle.std.specs.declared.option.Option.the-variants.{Some, None}
 use Rattle.std.proofs.shelf.Lists.{append-nil}
-use Rattle.std.proofs.shelf.Tests.{both-ways, cond-both, cond-true, cond-false}
+use Rattle.std.proofs.shelf.Tests.{cond-both, cond-true, cond-false}
 use Rattle.packet.specs.Bytes.{Bytes}
 use Rattle.packet.specs.Packet.{Packet, packet}
 use Rattle.packet.proofs.ResetLaws.{reset-is}
 use Rattle.packet.proofs.WriteLaws.{sent-right}
-use Rattle.sequence.specs.Places.{Place}
-use Rattle.window.specs.Known.{Piece}
 use Rattle.stream.specs.Stream.{Stream, taken}
-use Rattle.stream.specs.Steps.{Arrival, Arrives, Acked, Outcome, Passed, Empty, Word, pieceLeft, finLeft, pieceOf, finAt, pieceIn, finIn, piecesOf, finsOf, outcome, after, step}
+use Rattle.stream.specs.Steps.{Arrival, Arrives, Acked, Outcome, Passed, Empty, Word, pieceLeft, finLeft, pieceOf, pieceIn, finIn, piecesOf, finsOf, after, step}
 use Rattle.stream.specs.Steps as steps
 use Rattle.stream.specs.Promise.{Sound}
 use Rattle.stream.proofs.Next.{stays}
@@ -139,10 +137,10 @@ module _ (c : Config) (small : c .width ≤ 65536) (g : Gate) where
 
     decided-follows : (e : Event) (v : Verdict) → Decided c g e v → among k (g .keys) ≡ true → beginsBy k v ≡ false → Sound (c .width) (c .words) (streamOf k g) →
         Follows c k g e (streamOf k (apply v g)) (toLooms (answerOf v))
-    decided-follows e _ (Decided.refuses n l why) held b sound = idle-follows c k g e (why k held)
+    decided-follows _ _ (Decided.refuses side p n l why) held b sound = idle-follows c k g (Comes side p) (why k held)
     decided-follows _ _ (Decided.elapses n) held b sound = none-follows c k g (Ticks n) None refl refl refl
-    decided-follows _ _ (Decided.opening p r new n m) held b sound = bare-follows k (Comes Outside p) p (n k held) m
-    decided-follows _ _ (Decided.bare p out r o n t m) held b sound =
+    decided-follows _ _ (Decided.opening p r new n m alone) held b sound = bare-follows k (Comes Outside p) p (n k held) m
+    decided-follows _ _ (Decided.bare p out r o n t x m) held b sound =
         put-follows (Comes Outside p) (Some out) (senderOf p) _ (λ _. bare-follows (senderOf p) (Comes Outside p) out (n (senderOf p) (o .held)) m)
         (λ _. bare-follows k (Comes Outside p) out (n k held) m) sound
     decided-follows _ _ (Decided.takes p o is) held b sound =
@@ -158,11 +156,11 @@ module _ (c : Config) (small : c .width ≤ 65536) (g : Gate) where
     decided-follows _ _ (Decided.shuts p o found is) held b sound =
         put-follows (Comes Outside p) (Some _) (senderOf p) _ (λ _. bare-segment p o _ (reset-bare (senderOf p) (g .connection (senderOf p))) (Word found) is refl refl)
         (λ d. bare-follows k (Comes Outside p) _ (other-segment p (o .reads) k (g .connection k) d) (reset-bare (senderOf p) (g .connection (senderOf p)))) sound
-    decided-follows _ _ (Decided.replies p out r new n t) held b sound = none-follows c k g (Comes Looms p) None (n k held) refl refl
+    decided-follows _ _ (Decided.replies p out r new n t x) held b sound = none-follows c k g (Comes Looms p) None (n k held) refl refl
     decided-follows _ _ (Decided.again p r o n) held b sound =
         put-follows (Comes Looms p) None (loomOf p) _ (λ _. none-follows c (loomOf p) g (Comes Looms p) None (n (loomOf p) (o .held)) refl refl)
         (λ _. none-follows c k g (Comes Looms p) None (n k held) refl refl) sound
-    decided-follows _ _ (Decided.acks p r o came t) held b sound =
+    decided-follows _ _ (Decided.acks p r o came t x) held b sound =
         put-follows (Comes Looms p) None (loomOf p) _
         (λ _. one-follows c (loomOf p) g (Comes Looms p) None (Acked (ackedAt (g .connection (loomOf p)) (packet p))) _ (ap (arrival (g .connection (loomOf p)) None) came)
         (sym (cond-false (streamOf (loomOf p) g .shut) _ _ (o .notShut))) refl refl)
@@ -170,7 +168,7 @@ module _ (c : Config) (small : c .width ≤ 65536) (g : Gate) where
     decided-follows _ _ (Decided.begins p o n) held b sound =
         subst (λ (t : Connection). Follows c k g (Comes Looms p) (t .stream) None) (sym (cond-false (sameKey k (loomOf p)) _ (g .connection k) b))
         (none-follows c k g (Comes Looms p) None (n k held) refl refl)
-    decided-follows _ _ (Decided.ends p out r o q n t) held b sound = none-follows c k g (Comes Looms p) None (n k held) refl refl
+    decided-follows _ _ (Decided.ends p out r o q n t x) held b sound = none-follows c k g (Comes Looms p) None (n k held) refl refl
 
     pub follows : (e : Event) → among k (g .keys) ≡ true → Goes c k g e → Sound (c .width) (c .words) (streamOf k g) →
         Follows c k g e (streamOf k (next c g e)) (toLooms (answer c g e))

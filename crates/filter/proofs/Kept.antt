@@ -1,14 +1,11 @@
 -- The promise of the whole.
 -- Assumes nothing.
 use mathlib.Core.Path.{_≡_, refl, sym, _∙_, ap, subst}
-use mathlib.Core.Bool.{true, false}
+use mathlib.Core.Bool.{true}
 use mathlib.Core.List.{List}
 use Prim.Native.Nat.{ℕ}
-use Rattle.std.specs.declared.option.Option.{Option}
 use Rattle.std.specs.declared.option.Option.the-variants.{Some, None}
-use Rattle.std.proofs.shelf.Tests.{both-ways, cond-both}
-use Rattle.automaton.specs.Text.{Text}
-use Rattle.packet.specs.Packet.{Packet, packet}
+use Rattle.std.proofs.shelf.Tests.{cond-both}
 use Rattle.window.specs.Known.{Piece}
 use Rattle.window.proofs.PieceLaws.{none-some}
 use Rattle.stream.specs.Stream.{Stream, blank}
@@ -16,19 +13,18 @@ use Rattle.stream.specs.Steps as steps
 use Rattle.stream.specs.Promise.{Sound, OneText, Source}
 use Rattle.stream.specs.Promise as oneStream
 use Rattle.stream.proofs.Sound.{blank-sound}
-use Rattle.stream.proofs.Honest.{FromSource, blank-from}
+use Rattle.stream.proofs.Honest.{blank-from}
 use Rattle.stream.proofs.Kept.{promise}
 use Rattle.filter.specs.Config.{Config, Key}
-use Rattle.filter.specs.Gate.{Connection, begun, Gate, among, find, empty}
+use Rattle.filter.specs.Gate.{Connection, Gate, among, find, empty}
 use Rattle.filter.specs.Verdict.{Event}
 use Rattle.filter.specs.Decide.{next, run}
-use Rattle.filter.specs.Promise.{Fit, Goes, Begins, Stays, streamOf, ackOf, arrivals, passed, finished, Kept, PassedOn, Acknowledges, Counts, Honest, Unharmed, Promise}
-use Rattle.filter.proofs.Decided.{Open}
+use Rattle.filter.specs.Promise.{Fit, Goes, Stays, streamOf, arrivals, passed, finished, Kept, PassedOn, Acknowledges, Counts, Honest, Unharmed, Promise}
 use Rattle.filter.proofs.Runs.{Runs, runs, each, next-low, passed-on, run-shuts, run-agrees, run-goes-out}
 use Rattle.filter.proofs.Acks.{acked}
 use Rattle.filter.proofs.Counts.{counts}
 use Rattle.filter.proofs.Few.{run-few, run-distinct}
-use Rattle.filter.proofs.Handled.{begins-so, handled}
+use Rattle.filter.proofs.Handled.{begins-so, unbegun, handled}
 use Rattle.filter.proofs.Passes.{syn-passes, reply-passes, loom-passes, sender-resets, loom-resets}
 
 found-parts : (k : Key) (g : Gate) (s : Connection) → find k g ≡ Some s → (among k (g .keys) ≡ true) × (g .connection k ≡ s)
@@ -93,6 +89,7 @@ promise-kept c fit =
           kept c fit k g (new .0) (ap (λ (s : Connection). s .stream) (new .1)) after stays;
       packets = λ before e. handled c (fit .width) (run c empty before) e;
       syns = λ before p. syn-passes c (run c empty before) p;
+      unbegun = λ before p. unbegun c (run c empty before) p;
       replies = λ before p. reply-passes c (run c empty before) p;
       others = λ before p. loom-passes c (run c empty before) p;
       senderResets = λ before p. sender-resets c (run c empty before) p;

@@ -6,13 +6,12 @@ use mathlib.Core.List.{List, [], _∷_}
 use mathlib.Core.Logic.{⊎-elim}
 use Prim.Native.Nat.{ℕ}
 use lib.Dec.{eqb}
-use Rattle.std.specs.declared.option.Option.{Option}
 use Rattle.std.specs.declared.option.Option.the-variants.{Some, None}
 use Rattle.std.proofs.shelf.Tests.{both-ways, cases-bool, cond-both, cond-true, cond-false, and-parts, and-from, or-left, or-right, or-from, not-from-true, not-from-false, eqb-true, eq-eqb}
 use Rattle.packet.specs.Bytes.{Bytes}
 use Rattle.packet.specs.Packet.{packet}
 use Rattle.packet.specs.Laws.{ReadsAs}
-use Rattle.filter.specs.Config.{Side, Outside, Looms, Key, sameKey, keyFrom}
+use Rattle.filter.specs.Config.{Outside, Key, sameKey, keyFrom}
 use Rattle.filter.specs.Gate.{Connection, Gate, among, only, find, put, remove}
 
 pub key-same : (k : Key) → sameKey k k ≡ true

@@ -2,8 +2,8 @@
 -- Assumes nothing.
 use mathlib.Core.Path.{_≡_, refl, sym, _∙_, ap, ap₂, subst}
 use mathlib.Core.Bool.{true, false}
-use mathlib.Core.List.{List, [], _∷_, _++_, List·Memᴰ, List·Memᴰ·not-nil, List·Memᴰ·append-cases, List·Memᴰ·eq-of-singleton}
-use mathlib.Core.Logic.{_⊎_, inl, inr, ⊎-elim}
+use mathlib.Core.List.{List, [], _∷_, _++_, List·Memᴰ·not-nil, List·Memᴰ·append-cases, List·Memᴰ·eq-of-singleton}
+use mathlib.Core.Logic.{⊎-elim}
 use Prim.Native.Nat.{ℕ, _≤_}
 use native.Mathlib.Omega.{arith}
 use Rattle.std.specs.declared.option.Option.{Option}
@@ -200,8 +200,7 @@ module _ (c : Config) (small : c .width ≤ 65536) (k : Key) where
     run-goes-out g (e ∷ es) held t h sound from =
         let f = follows c small g k e held (t .0) sound in
         let then-from : FromSource source (streamOf k (next c g e)) = subst (FromSource source) (sym (f .stream))
-        (run-from (c .width) (c .words) source (streamOf k g) (arrives k (g .connection k) e) sound from (arrival-agrees (g .connection k) (segmentOf k e) (ackOf k e) (h .0))) in
-        (
+        (run-from (c .width) (c .words) source (streamOf k g) (arrives k (g .connection k) e) sound from (arrival-agrees (g .connection k) (segmentOf k e) (ackOf k e) (h .0))) in (
           (λ p came. let d = segment-step g e f p came in
               rw (d .stream, d .pieces, d .fins) (goes-out (c .width) (c .words) source (streamOf k g) sound from (segmentAt (g .connection k) p) (h .0 p came))),
           run-goes-out (next c g e) es (t .0 .held) (t .1) (h .1) (next-sound g e f sound) then-from,

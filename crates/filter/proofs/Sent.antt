@@ -1,9 +1,9 @@
 -- What is left of a segment, read from the bytes that go out, is what the stream passes on.
 -- Assumes nothing.
-use mathlib.Core.Path.{_≡_, refl, sym, _∙_, ap, ap₂, subst}
-use mathlib.Core.Bool.{true, false, cond}
+use mathlib.Core.Path.{_≡_, refl, _∙_, ap, ap₂}
+use mathlib.Core.Bool.{true}
 use mathlib.Core.List.{List, [], _∷_}
-use Prim.Native.Nat.{ℕ, _+_, _-_, _%_, _<_, _≤_, max}
+use Prim.Native.Nat.{ℕ, _+_, _-_, _%_, _<_, _≤_}
 use native.Mathlib.Omega.{arith}
 use lib.Dec.{eqb, leb}
 use lib.ListN.{length, drop}
@@ -20,7 +20,8 @@ use Rattle.packet.proofs.WriteLaws.{sent-right}
 use Rattle.sequence.specs.Places.{Place, Below, At, numberOf, placeOf, placeAfter}
 use Rattle.sequence.proofs.PlaceLaws.{place-back}
 use Rattle.window.specs.Known.{Piece}
-use Rattle.window.proofs.PieceLaws.{none-some, length-overlay}
+use Rattle.window.proofs.KnownLaws.{length-overlay}
+use Rattle.window.proofs.PieceLaws.{none-some}
 use Rattle.stream.specs.Stream.{pieceAt, upTo, windowEnd, inner}
 use Rattle.stream.specs.Steps.{Segment, pieceOf, finAt, pieceLeft, finLeft, pieceIn, finIn}
 use Rattle.stream.specs.Promise.{Sound, FinFits}

@@ -46,14 +46,25 @@ impl Machines {
 
     fn show(&self, rt: &LibcRuntime) -> io::Result<()> {
         let [a, b] = self.keeps_first;
-        println!(rt, "  a machine that keeps the first byte reads: {}{}", a as char, b as char)?;
+        println!(
+            rt,
+            "  a machine that keeps the first byte reads: {}{}",
+            a as char, b as char
+        )?;
         let [a, b] = self.takes_last;
-        println!(rt, "  a machine that takes the last byte reads:  {}{}", a as char, b as char)
+        println!(
+            rt,
+            "  a machine that takes the last byte reads:  {}{}",
+            a as char, b as char
+        )
     }
 }
 
 fn old_way(rt: &LibcRuntime) -> io::Result<()> {
-    println!(rt, "The word is ab. Everything is passed on as it comes, and only the first byte of a place is looked at:")?;
+    println!(
+        rt,
+        "The word is ab. Everything is passed on as it comes, and only the first byte of a place is looked at:"
+    )?;
     let mut machines = Machines::new();
     for (place, byte) in SENT {
         let shown = byte as char;
@@ -63,22 +74,50 @@ fn old_way(rt: &LibcRuntime) -> io::Result<()> {
     machines.show(rt)
 }
 
-fn send(rt: &LibcRuntime, table: &Table, stream: &mut Stream, machines: &mut Machines, place: u64, byte: u8) -> io::Result<()> {
+fn send(
+    rt: &LibcRuntime,
+    table: &Table,
+    stream: &mut Stream,
+    machines: &mut Machines,
+    place: u64,
+    byte: u8,
+) -> io::Result<()> {
     let mut payload = [byte];
     match stream.take(table, Place::At(place), &mut payload, false) {
         Taken::Passed { .. } => {
             let [out] = payload;
-            println!(rt, "  sent at {place}: {}   passed on: {}", byte as char, out as char)?;
+            println!(
+                rt,
+                "  sent at {place}: {}   passed on: {}",
+                byte as char, out as char
+            )?;
             machines.receive(place, out);
         }
-        Taken::Empty => println!(rt, "  sent at {place}: {}   nothing is left of it", byte as char)?,
-        Taken::Word { place: end, .. } => println!(rt, "  sent at {place}: {}   refused: a word would end at place {end}, and the stream is shut", byte as char)?,
-        Taken::Closed => println!(rt, "  sent at {place}: {}   refused: the stream is shut", byte as char)?,
+        Taken::Empty => println!(
+            rt,
+            "  sent at {place}: {}   nothing is left of it",
+            byte as char
+        )?,
+        Taken::Word { place: end, .. } => println!(
+            rt,
+            "  sent at {place}: {}   refused: a word would end at place {end}, and the stream is shut",
+            byte as char
+        )?,
+        Taken::Closed => println!(
+            rt,
+            "  sent at {place}: {}   refused: the stream is shut",
+            byte as char
+        )?,
     }
     Ok(())
 }
 
-fn our_way(rt: &LibcRuntime, table: &Table, stream: &mut Stream, sent: &[(u64, u8)]) -> io::Result<()> {
+fn our_way(
+    rt: &LibcRuntime,
+    table: &Table,
+    stream: &mut Stream,
+    sent: &[(u64, u8)],
+) -> io::Result<()> {
     let mut machines = Machines::new();
     for (place, byte) in sent.iter().copied() {
         send(rt, table, stream, &mut machines, place, byte)?;
@@ -101,7 +140,10 @@ fn tell(rt: &LibcRuntime) -> Result<(), AnyError> {
     old_way(rt)?;
     println!(rt, "The gate keeps one byte for each place:")?;
     our_way(rt, &table, &mut stream, &SENT)?;
-    println!(rt, "And where the word comes backward, its last byte first:")?;
+    println!(
+        rt,
+        "And where the word comes backward, its last byte first:"
+    )?;
     stream.clear();
     our_way(rt, &table, &mut stream, &BACKWARD)?;
     Ok(())

@@ -3,8 +3,7 @@
 use mathlib.Core.Path.{_≡_, refl, sym, _∙_, ap, ap₂, subst}
 use mathlib.Core.Bool.{true, false, cond}
 use mathlib.Core.List.{List, [], _∷_, _++_, List·Memᴰ, List·Memᴰ·head, List·Memᴰ·not-nil, List·Memᴰ·eq-of-singleton}
-use mathlib.Core.Logic.{_⊎_, ⊎-elim}
-use Prim.Native.Nat.{ℕ, _+_, _-_, _<_, _≤_}
+use Prim.Native.Nat.{ℕ, _+_, _-_, _≤_}
 use native.Mathlib.Omega.{arith}
 use lib.ListN.{length}
 use Rattle.std.specs.Options.{isSome}
@@ -13,7 +12,7 @@ use Rattle.std.specs.declared.option.Option.the-variants.{Some, None}
 use Rattle.std.proofs.shelf.Lists.{append-nil}
 use Rattle.std.proofs.shelf.Tests.{both-ways, cond-both, cond-true, cond-false, and-from, le-leb, lt-ltb, eq-eqb}
 use Rattle.automaton.specs.Text.{Text}
-use Rattle.automaton.specs.Look.{Found, look}
+use Rattle.automaton.specs.Look.{look}
 use Rattle.automaton.proofs.LookLaws.{look-law}
 use Rattle.sequence.specs.Places.{Place, Below, At}
 use Rattle.window.specs.Known.{Piece, byteOf, byteOr, learn, orElse, overlay, onwards}

@@ -4,11 +4,9 @@ use mathlib.Core.Path.{_≡_, refl, sym, _∙_, ap, subst}
 use mathlib.Core.Bool.{true, false}
 use mathlib.Core.List.{List, [], _∷_, _++_, List·Memᴰ, List·Memᴰ·not-nil, List·Memᴰ·append-cases, append-assoc}
 use mathlib.Core.Logic.{⊎-elim}
-use Prim.Native.Nat.{ℕ, _<_, _≤_}
-use native.Mathlib.Omega.{arith}
-use lib.ListN.{length, drop, getD}
+use Prim.Native.Nat.{ℕ, _≤_}
+use lib.ListN.{length, drop}
 use Rattle.std.specs.Finite.{nth}
-use Rattle.std.specs.declared.option.Option.{Option}
 use Rattle.std.specs.declared.option.Option.the-variants.{Some}
 use Rattle.std.proofs.shelf.Maps.{nth-getD}
 use Rattle.std.proofs.shelf.Tests.{both-ways, cases-bool, cases-lt}
@@ -16,9 +14,8 @@ use Rattle.automaton.specs.Text.{Text}
 use Rattle.window.specs.Known.{Piece, byteOf, orElse}
 use Rattle.window.proofs.PieceLaws.{none-some, Extends, start-from, from-same, overlay-known}
 use Rattle.stream.specs.Stream.{Stream, inner}
-use Rattle.stream.specs.Steps.{Segment, Arrival, Arrives, Acked, pieceOf, finLeft, pieceLeft, Outcome, outcome, after, step, piecesOf, finsOf, passedBy, finsBy, run, passed, fins}
-use Rattle.stream.specs.Machine.{Given}
-use Rattle.stream.specs.Promise.{FirstPart, Sound, WordCame, ShutFor}
+use Rattle.stream.specs.Steps.{Segment, Arrival, Arrives, Acked, pieceOf, pieceLeft, Outcome, outcome, after, step, piecesOf, finsOf, passedBy, finsBy, run, passed, fins}
+use Rattle.stream.specs.Promise.{FirstPart, Sound, ShutFor}
 use Rattle.stream.proofs.Outcomes.{Done, closed, word, empty, passes, done}
 use Rattle.stream.proofs.Sound.{step-sound}
 use Rattle.stream.proofs.Next.{in-piece, done-fins, acked-cases, next}

@@ -1,12 +1,12 @@
 -- What stays true of a stream, whatever comes.
 -- Assumes nothing.
 use mathlib.Core.Path.{_≡_, refl, sym, _∙_, ap}
-use mathlib.Core.Bool.{true, false}
+use mathlib.Core.Bool.{true}
 use mathlib.Core.List.{List, _++_}
-use mathlib.Core.Logic.{_⊎_, inl, inr, ⊎-elim}
+use mathlib.Core.Logic.{⊎-elim}
 use Prim.Native.Nat.{ℕ, _+_, _-_, _<_, _≤_}
 use native.Mathlib.Omega.{arith}
-use lib.Dec.{leb, ltb, eqb}
+use lib.Dec.{leb, ltb}
 use lib.ListN.{length, length-append}
 use Rattle.std.specs.Finite.{nth}
 use Rattle.std.specs.Options.{isSome}
@@ -14,12 +14,12 @@ use Rattle.std.specs.declared.option.Option.{Option}
 use Rattle.std.specs.declared.option.Option.the-variants.{Some, None}
 use Rattle.std.proofs.shelf.Maps.{nth-getD}
 use Rattle.std.proofs.shelf.Tests.{cond-both, and-parts, leb-true, ltb-true, eqb-true, cases-lt}
-use Rattle.automaton.specs.Text.{Text, has, nonempty}
+use Rattle.automaton.specs.Text.{Text, nonempty}
 use Rattle.automaton.specs.Look.{look}
 use Rattle.automaton.proofs.LookLaws.{no-word-in-nil, look-law}
 use Rattle.sequence.specs.Places.{Place, Below, At}
 use Rattle.window.specs.Known.{Known, Piece, byteOf}
-use Rattle.window.proofs.PieceLaws.{none-some, none-since, Extends, append-start, learn-keeps, learn-from, learn-none, or-either, onwards-known, onwards-ends, none-known, cut-inside, Inside}
+use Rattle.window.proofs.PieceLaws.{none-some, none-since, append-start, learn-keeps, learn-none, or-either, onwards-known, onwards-ends, none-known, cut-inside}
 use Rattle.stream.specs.Stream.{Stream, blank, upTo, windowEnd, inner, nextKnown, newText, noneElsewhere, finFits, keptFin, acknowledgedTo, taken}
 use Rattle.stream.specs.Steps.{Segment, Arrival, Arrives, Acked, pieceOf, finAt, finLeft, Outcome, outcome, after, step}
 use Rattle.stream.specs.Promise.{Sound, FinFits}

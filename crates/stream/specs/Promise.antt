@@ -14,7 +14,7 @@ use Rattle.automaton.specs.LookLaw.{FirstWord}
 use Rattle.sequence.specs.Places.{Below, At}
 use Rattle.window.specs.Known.{Piece, byteOf, byteOr}
 use Rattle.stream.specs.Stream.{Stream, blank, windowEnd, upTo, inner, nextKnown}
-use Rattle.stream.specs.Steps.{Segment, Arrival, Arrives, Acked, pieceOf, finAt, Outcome, Word, outcome, step, passedBy, finsBy, run, passed, fins}
+use Rattle.stream.specs.Steps.{Segment, Arrival, Arrives, Acked, pieceOf, finAt, Word, outcome, step, passedBy, finsBy, run, passed, fins}
 use Rattle.stream.specs.Machine.{Machine, Plays, Given}
 
 -- a text is a first part of another
