@@ -89,7 +89,7 @@ module _ (c : Config) (g : Gate) (k : Key) where
       idle : Decided.Idle c g (Comes side p) k → ⊥
       idle (Decided.idle-none none) = comes-some (Comes side p) q none came
       idle (Decided.idle-shut shut) = both-ways _ (o .notShut) shut
-      idle (Decided.idle-empty segment s is) = not-both (Comes side p) segment q s came
+      idle (Decided.idle-empty segment s is without) = not-both (Comes side p) segment q s came
   brings _ _ (Decided.elapses n) q came o = absurd (none-some refl came)
   brings _ _ (Decided.opening p r new n m alone) q came o = absurd (none-some refl came)
   brings _ _ (Decided.bare p out r w n t x m) q came o = absurd (none-some refl came)

@@ -25,7 +25,7 @@ use Rattle.filter.proofs.Decided.{Decided, decided, senderOf, loomOf}
 some-none : {n : ℕ} → _≡_ {A = Option ℕ} (Some n) None → ⊥
 some-none e = none-some refl (sym e)
 
-segment-came : (k : Key) (p : Bytes) (q : Packet) → read p ≡ Ok (packet p) → segmentOf k (Comes Outside p) ≡ Some q → (k ≡ senderOf p) × (packet p ≡ q)
+pub segment-came : (k : Key) (p : Bytes) (q : Packet) → read p ≡ Ok (packet p) → segmentOf k (Comes Outside p) ≡ Some q → (k ≡ senderOf p) × (packet p ≡ q)
 segment-came k p q reads came =
     cond-both (sameKey k (senderOf p) && (not (packet p .syn) && not (packet p .rst))) (Some (packet p)) None (λ x. x ≡ Some q → (k ≡ senderOf p) × (packet p ≡ q))
     (λ t e. let is : packet p ≡ q = cc in (same-key k (senderOf p) (and-parts (sameKey k (senderOf p)) _ t .0), is)) (λ _ e. absurd (none-some refl e)) (sym (ap (segmentRead k) reads) ∙ came)
@@ -54,8 +54,8 @@ module _ (c : Config) (g : Gate) (k : Key) where
   active _ _ (Decided.ends p out r w rst n t x) h u o q = absurd (both-ways _ (remove-gone k (loomOf p) g o) u)
 
   -- a segment is something
-  comes-some : (e : Event) (q : Packet) → arrives k (g .connection k) e ≡ [] → segmentOf k e ≡ Some q → ⊥
-  comes-some e q none came = omega (arith, ap length (sym none ∙ ap (λ x. arrival (g .connection k) x (ackOf k e)) came))
+  pub segment-some : (e : Event) (q : Packet) → arrives k (g .connection k) e ≡ [] → segmentOf k e ≡ Some q → ⊥
+  segment-some e q none came = omega (arith, ap length (sym none ∙ ap (λ x. arrival (g .connection k) x (ackOf k e)) came))
 
   -- of a segment that is passed on the acknowledged number is kept
   put-ack : (p : Bytes) (q : Packet) (s : Connection) → read p ≡ Ok (packet p) → segmentOf k (Comes Outside p) ≡ Some q →
@@ -71,8 +71,8 @@ module _ (c : Config) (g : Gate) (k : Key) where
       apply v g .connection k .lastAck ≡ cond (q .ack) (q .acknowledged) (g .connection k .lastAck)
   last-ack _ _ (Decided.refuses side p n l why) h q came r = absurd (some-none r)
   last-ack _ _ (Decided.elapses n) h q came r = absurd (none-some refl came)
-  last-ack _ _ (Decided.opening p reads new n m alone) h q came r = absurd (comes-some (Comes Outside p) q (n k h) came)
-  last-ack _ _ (Decided.bare p out reads w n t x m) h q came r = absurd (comes-some (Comes Outside p) q (n k h) came)
+  last-ack _ _ (Decided.opening p reads new n m alone) h q came r = absurd (segment-some (Comes Outside p) q (n k h) came)
+  last-ack _ _ (Decided.bare p out reads w n t x m) h q came r = absurd (segment-some (Comes Outside p) q (n k h) came)
   last-ack _ _ (Decided.takes p w is) h q came r = put-ack p q _ (w .reads) came refl
   last-ack _ _ (Decided.acksOnly p w is m) h q came r = put-ack p q _ (w .reads) came refl
   last-ack _ _ (Decided.shuts p w found is) h q came r = absurd (some-none r)

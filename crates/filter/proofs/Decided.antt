@@ -20,6 +20,7 @@ use Rattle.packet.specs.Laws.{Sent, asCame, rewritten}
 use Rattle.packet.proofs.ReadLaws.{read-is, read-refuses}
 use Rattle.packet.proofs.WriteLaws.{sent-right}
 use Rattle.sequence.specs.Places.{Place, Below, At}
+use Rattle.window.proofs.PieceLaws.{none-some}
 use Rattle.stream.specs.Stream.{Stream, taken, ackLimit, acknowledgedTo}
 use Rattle.stream.specs.Steps.{Arrives, Segment, pieceOf, pieceLeft, finLeft, Outcome, Passed, Empty, Word, isEmpty, outcome}
 use Rattle.stream.proofs.Outcomes.{Done, done}
@@ -27,7 +28,7 @@ use Rattle.stream.proofs.Outcomes as outcomes
 use Rattle.filter.specs.Config.{Config, Side, Outside, Looms, opposite, Key, sameKey, keyFrom}
 use Rattle.filter.specs.Gate.{Connection, begun, active, closed, Gate, among, full}
 use Rattle.filter.specs.Verdict.{Event, Comes, Ticks, Verdict, Refuse, Forward, Update, Begin, End, Shut, Elapse}
-use Rattle.filter.specs.Decide.{segmentAt, withoutFin, marksLeft, packetLeft, advanced, resetToLoom, resetToSender, onOutcome, onSegment, synAlone, opens, continues, fromOutside, ackedAt, lowered, sameBeginning, fromLoom, opensWithBytes, onPacket, onRead, verdict}
+use Rattle.filter.specs.Decide.{segmentAt, numberLeft, withoutFin, marksLeft, packetLeft, advanced, resetToLoom, resetToSender, onOutcome, onSegment, synAlone, opens, continues, fromOutside, ackedAt, lowered, sameBeginning, fromLoom, opensWithBytes, onPacket, onRead, verdict}
 use Rattle.filter.specs.Promise.{streamOf, segmentOf, segmentRead, ackOf, ackRead, arrives, arrival, KeepsOwn, Crosses}
 use Rattle.filter.proofs.Keys.{key-same, same-key, held-apart}
 
@@ -55,7 +56,7 @@ NoArrival g e = (k : Key) → among k (g .keys) ≡ true → arrives k (g .conne
 pub data Idle (c : Config) (g : Gate) (e : Event) (k : Key) : Type 0 where
   idle-none : arrives k (g .connection k) e ≡ [] → Idle c g e k
   idle-shut : streamOf k g .shut ≡ true → Idle c g e k
-  idle-empty : (p : Packet) → segmentOf k e ≡ Some p → outcome (c .width) (c .words) (streamOf k g) (segmentAt (g .connection k) p) ≡ Empty → Idle c g e k
+  idle-empty : (p : Packet) → segmentOf k e ≡ Some p → outcome (c .width) (c .words) (streamOf k g) (segmentAt (g .connection k) p) ≡ Empty → p .ack ≡ false → Idle c g e k
 
 -- a sender's segment comes to a stream that is open
 pub record ComesOpen (g : Gate) (p : Bytes) : Type 0 where
@@ -153,18 +154,37 @@ pub as-came : (side : Side) (p : Bytes) → Crosses side p (opposite side) p
 as-came side p = record { across = refl; source = refl; sourcePort = refl; destination = refl; destinationPort = refl; keeps = own side }
   where
     own : (side : Side) → KeepsOwn side p p
-    own Outside = (refl, inl refl)
+    own Outside = (refl, inl refl, λ _ _. refl)
     own Looms = (refl, refl, inl refl)
 
 module _ (p : Bytes) (reads : read p ≡ Ok (packet p)) where
-  pub sender-crosses : (n : ℕ) (fin : Option ℕ) (t : Bytes) → Crosses Outside p Looms (rewrite (packet p) n (packet p .acknowledged) (marksLeft (packet p) fin) t)
-  sender-crosses n fin t =
-      let r = sent-right .fields p reads n (packet p .acknowledged) (marksLeft (packet p) fin) t in
-      record { across = refl; source = r .source; sourcePort = r .sourcePort; destination = r .destination; destinationPort = r .destinationPort; keeps = (omega (arith, r .acknowledged), marks fin (r .marks)) }
+  pub sender-crosses : (s : Connection) (i : ℕ) (t : Bytes) (fin : Option ℕ) → ((f : ℕ) → fin ≡ Some f → packet p .fin ≡ true) →
+      Crosses Outside p Looms (packetLeft s (packet p) i t fin)
+  sender-crosses s i t fin marked =
+      let r = sent-right .fields p reads (numberLeft s (packet p) i t fin) (packet p .acknowledged) (marksLeft (packet p) fin) t in
+      record {
+        across = refl;
+        source = r .source;
+        sourcePort = r .sourcePort;
+        destination = r .destination;
+        destinationPort = r .destinationPort;
+        keeps = (
+          omega (arith, r .acknowledged),
+          marks fin (r .marks),
+          λ empty none.
+              ap (λ n. n % 4294967296) (r .number ∙ ap (λ n. n % 4294967296) (numbered t fin marked (sym (r .payload) ∙ empty) (sym (ap (λ m. eqb (m % 2) 1) (r .marks)) ∙ none))) ∙ omega arith,
+        );
+      }
     where
       marks : (fin : Option ℕ) {m : ℕ} → m ≡ marksLeft (packet p) fin → (m ≡ packet p .marks) ⊎ (m ≡ withoutFin (packet p .marks))
       marks None e = inr e
       marks (Some f) e = inl e
+
+      numbered : (t : Bytes) (fin : Option ℕ) → ((f : ℕ) → fin ≡ Some f → packet p .fin ≡ true) → t ≡ [] → eqb (marksLeft (packet p) fin % 2) 1 ≡ false →
+          numberLeft s (packet p) i t fin ≡ packet p .number
+      numbered [] None h e n = refl
+      numbered [] (Some f) h e n = absurd (both-ways (packet p .fin) n (h f refl))
+      numbered (b ∷ bs) fin h e n = absurd (omega (arith, ap length e))
 
   loom-crosses : (a : ℕ) (t : Bytes) → (t ≡ packet p .payload) ⊎ (packet p .rst ≡ true) → Crosses Looms p Outside (rewrite (packet p) (packet p .number) a (packet p .marks) t)
   loom-crosses a t own =
@@ -240,7 +260,7 @@ module _ (c : Config) (g : Gate) (p : Bytes) (reads : read p ≡ Ok (packet p)) 
       go _ e (outcomes.closed shut) = absurd (both-ways _ (came .isOpen .notShut) shut)
       go _ e (outcomes.word up found l) = shuts p came found e
       go _ e (outcomes.empty up l none nofin) =
-          cond-both (packet p .ack) _ (Refuse 9) FromSender (λ _. acksOnly p came e (empty-bare (g .connection (senderOf p)))) (λ _. refuses-own 9 (omega arith) (idle-empty (packet p) (came .segment) e))
+          cond-both (packet p .ack) _ (Refuse 9) FromSender (λ _. acksOnly p came e (empty-bare (g .connection (senderOf p)))) (λ without. refuses-own 9 (omega arith) (idle-empty (packet p) (came .segment) e without))
       go _ e (outcomes.passes up l) = takes p came e
 
   outside-held : among (senderOf p) (g .keys) ≡ true → FromSender (fromOutside c (senderOf p) (packet p) (Some (g .connection (senderOf p))))
@@ -258,7 +278,7 @@ module _ (c : Config) (g : Gate) (p : Bytes) (reads : read p ≡ Ok (packet p)) 
       (λ syn. cond-both (s .stream .shut) (Refuse 8) _ FromSender
       (λ is. refuses-own 8 (omega arith) (idle-shut is))
       (λ up. cond-both (packet p .rst) _ (onSegment c (senderOf p) s (packet p)) FromSender
-      (λ rst. bare p _ reads (record { held = held; notShut = up }) (no-segment (inr rst)) (empty-sent _ _ _) (sender-crosses p reads _ None []) (empty-bare s))
+      (λ rst. bare p _ reads (record { held = held; notShut = up }) (no-segment (inr rst)) (empty-sent _ _ _) (sender-crosses p reads s 0 [] None (λ f e. absurd (none-some refl e))) (empty-bare s))
       (λ rst.
       let is = segment-some p reads (senderOf p) (and-from _ _ (key-same (senderOf p)) (and-from _ _ (not-from-false _ syn) (not-from-false _ rst))) in
       segment-decided (record { reads = reads; isOpen = record { held = held; notShut = up }; brings = ap (λ x. arrival s x None) is; segment = is })))))

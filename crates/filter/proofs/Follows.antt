@@ -71,7 +71,7 @@ idle-follows c k g e (Decided.idle-shut is) = go (segmentOf k e) (ackOf k e) ref
     go (Some p) y n = one (Arrives (segmentAt (g .connection k) p)) n
     go None (Some p) n = one (Acked (ackedAt (g .connection k) p)) n
     go None None n = none-follows c k g e None n refl refl
-idle-follows c k g e (Decided.idle-empty p came is) =
+idle-follows c k g e (Decided.idle-empty p came is without) =
     one-follows c k g e None (Arrives (segmentAt (g .connection k) p)) (streamOf k g) (ap (λ x. arrival (g .connection k) x (ackOf k e)) came)
     (sym (ap (after (c .width) (streamOf k g) (segmentAt (g .connection k) p)) is)) (sym (ap piecesOf is)) (sym (ap finsOf is))
 

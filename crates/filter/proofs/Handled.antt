@@ -20,6 +20,7 @@ use Rattle.packet.proofs.WriteLaws.{sent-right}
 use Rattle.packet.proofs.ResetLaws.{reset-reads, reset-fresh, reset-is}
 use Rattle.window.proofs.PieceLaws.{none-some}
 use Rattle.stream.specs.Steps.{Word, finLeft}
+use Rattle.stream.proofs.Sound.{left-at}
 use Rattle.filter.specs.Config.{Config, Side, Outside, Looms, Key, sameKey, keyFrom}
 use Rattle.filter.specs.Gate.{Connection, begun, aged, closed, Gate, among, only, find, full, put, remove, elapse, elapsed}
 use Rattle.filter.specs.Verdict.{Event, Comes, Ticks, Verdict, Refuse, Forward, Update, Begin, End, Shut, Elapse, apply, answerOf, refusalOf, outOf}
@@ -28,7 +29,7 @@ use Rattle.filter.specs.Promise.{streamOf, segmentOf, beginsBy, Begins, Beginn
 use Rattle.filter.proofs.Keys.{same-key, put-keeps, put-found, put-other, among-only, only-gone, remove-gone, remove-other}
 use Rattle.filter.proofs.Decided
 use Rattle.filter.proofs.Decided.{Decided, decided, as-came, sender-crosses, Opens, senderOf, loomOf, segIn, outcomeIn}
-use Rattle.filter.proofs.Sent.{left-sent}
+use Rattle.filter.proofs.Sent.{fin-parts, left-sent}
 
 refused-nothing : (g : Gate) (v : Verdict) (n : ℕ) → refusalOf (answerOf v) ≡ Some n → (n ≡ 10 → ⊥) → (apply v g ≡ g) × (outOf (answerOf v) ≡ [])
 refused-nothing g (Refuse m) n e ten = (refl, refl)
@@ -76,8 +77,10 @@ module _ (c : Config) (g : Gate) where
   crosses _ _ (Decided.elapses n) = refl
   crosses _ _ (Decided.opening p r new n m alone) = as-came Outside p
   crosses _ _ (Decided.bare p out r w n t x m) = x
-  crosses _ _ (Decided.takes p w is) = sender-crosses p (w .reads) _ (finLeft (c .width) (streamOf (senderOf p) g) (segIn g p)) _
-  crosses _ _ (Decided.acksOnly p w is m) = sender-crosses p (w .reads) _ None []
+  crosses _ _ (Decided.takes p w is) =
+      sender-crosses p (w .reads) (g .connection (senderOf p)) _ _ (finLeft (c .width) (streamOf (senderOf p) g) (segIn g p))
+      (λ f e. fin-parts (segIn g p) f (left-at (c .width) (streamOf (senderOf p) g) (segIn g p) f e) .0)
+  crosses _ _ (Decided.acksOnly p w is m) = sender-crosses p (w .reads) (g .connection (senderOf p)) 0 [] None (λ f e. absurd (none-some refl e))
   crosses _ _ (Decided.shuts p w found is) = tt
   crosses _ _ (Decided.replies p out r new n t x) = x
   crosses _ _ (Decided.again p r w n) = as-came Looms p

@@ -72,11 +72,12 @@ module _ (c : Config) (g : Gate) (p : Bytes) where
           begins
 
   pub loom-passes : LoomPasses c g p
-  loom-passes reads rst syn none =
-      ap (λ r. answerOf (onRead c g Looms r)) reads ∙
-      ap answerOf (cond-false (opensWithBytes (packet p)) (Refuse 7) _ (and-left (packet p .syn) _ syn) ∙
-      (ap (fromLoom c loom (packet p) (full g)) (cond-false (among loom (g .keys)) (Some held-by) None none) ∙
-      (cond-false (packet p .rst) _ _ rst ∙ cond-false (packet p .syn && packet p .ack) _ _ (and-left (packet p .syn) (packet p .ack) syn))))
+  loom-passes reads rst two bare up either =
+      ap (λ r. answerOf (onRead c g Looms r)) reads ∙ (ap answerOf (cond-false (opensWithBytes (packet p)) (Refuse 7) _ bare) ∙
+      cond-both (among loom (g .keys)) (Some held-by) None (λ s. answerOf (fromLoom c loom (packet p) (full g) s) ≡ Out Outside p)
+      (λ held. ap answerOf (cond-false (held-by .stream .shut) (Refuse 8) _ (up held) ∙ (cond-false (packet p .rst) _ _ rst ∙ (cond-false (packet p .syn && packet p .ack) _ _ two ∙
+      cond-false (packet p .ack) _ _ (⊎-elim (λ new. absurd (both-ways _ new held)) (λ e. e) either)))))
+      (λ _. ap answerOf (cond-false (packet p .rst) _ _ rst ∙ cond-false (packet p .syn && packet p .ack) _ _ two)))
 
   pub sender-resets : SenderResets c g p
   sender-resets reads rst syn held up = (packetLeft s (packet p) 0 [] None, ap answerOf done, is .payload, is .marks)

@@ -11,7 +11,9 @@ use Rattle.std.specs.declared.option.Option.the-variants.{Some, None}
 use Rattle.std.proofs.shelf.Lists.{append-nil}
 use Rattle.std.proofs.shelf.Tests.{both-ways, cases-bool}
 use Rattle.automaton.specs.Text.{Text}
+use Rattle.packet.specs.Bytes.{Bytes}
 use Rattle.packet.specs.Packet.{Packet}
+use Rattle.window.proofs.PieceLaws.{none-some}
 use Rattle.stream.specs.Stream.{Stream}
 use Rattle.stream.specs.Steps.{Segment, Arrival, Arrives, Acked, Outcome, after, step}
 use Rattle.stream.specs.Steps as steps
@@ -20,12 +22,19 @@ use Rattle.stream.specs.Promise as oneStream
 use Rattle.stream.proofs.Next as following
 use Rattle.stream.proofs.Runs.{run-append, passed-append, fins-append, run-sound, run-stays}
 use Rattle.stream.proofs.Honest.{FromSource, run-from, goes-out}
-use Rattle.filter.specs.Config.{Config, Key}
-use Rattle.filter.specs.Gate.{Connection, Gate, among}
-use Rattle.filter.specs.Verdict.{Event, toLooms}
-use Rattle.filter.specs.Decide.{segmentAt, ackedAt, next, answer, run}
+use Rattle.filter.specs.Config.{Config, Outside, Looms, Key}
+use Rattle.filter.specs.Gate.{Connection, closed, Gate, among, put}
+use Rattle.filter.specs.Verdict.{Event, Comes, Verdict, apply, Out, answerOf, toLooms}
+use Rattle.filter.specs.Decide.{segmentAt, ackedAt, verdict, next, answer, run}
 use Rattle.filter.specs.Promise.{Goes, Each, Sometime, here, later, Stays, streamOf, segmentOf, ackOf, arrival, arrives, arrivals, passedBy, finishedBy, passed, finished, WordCame, PassedOn, Honest, GoesOut}
+use Rattle.filter.proofs.Keys.{put-same}
+use Rattle.filter.proofs.Decided
+use Rattle.filter.proofs.Decided.{Decided, decided, senderOf}
+use Rattle.filter.proofs.Counts.{segment-some, segment-came}
 use Rattle.filter.proofs.Follows.{Follows, follows}
+
+some-same : {p q : Packet} → _≡_ {A = Option Packet} (Some p) (Some q) → p ≡ q
+some-same e = cc
 
 -- the stream and all that went out are those of a run of the stream's own steps
 pub record Runs (c : Config) (k : Key) (g : Gate) (es : List Event) : Type 0 where
@@ -111,6 +120,30 @@ module _ (c : Config) (small : c .width ≤ 65536) (k : Key) where
             sym (fins-append (c .width) (c .words) (streamOf k g) came more);
       }
 
+  -- a segment of an open stream with an acknowledged number is not refused, unless the stream is shut then
+  ack-out : (g : Gate) → among k (g .keys) ≡ true → (e : Event) (v : Verdict) → Decided c g e v → (q : Packet) → segmentOf k e ≡ Some q → q .ack ≡ true →
+      streamOf k g .shut ≡ false → streamOf k (apply v g) .shut ≡ false → (out : Bytes) × (answerOf v ≡ Out Looms out)
+  ack-out g held _ _ (Decided.refuses side p n l why) q came ack up still = absurd (idle (why k held))
+    where
+      idle : Decided.Idle c g (Comes side p) k → ⊥
+      idle (Decided.idle-none none) = segment-some c g k (Comes side p) q none came
+      idle (Decided.idle-shut shut) = both-ways _ up shut
+      idle (Decided.idle-empty r s is without) = let same : r ≡ q = some-same (sym s ∙ came) in both-ways _ without (rw same ack)
+  ack-out g held _ _ (Decided.elapses n) q came ack up still = absurd (none-some refl came)
+  ack-out g held _ _ (Decided.opening p r new n m alone) q came ack up still = absurd (segment-some c g k (Comes Outside p) q (n k held) came)
+  ack-out g held _ _ (Decided.bare p out r w n t x m) q came ack up still = (out, refl)
+  ack-out g held _ _ (Decided.takes p w is) q came ack up still = (_, refl)
+  ack-out g held _ _ (Decided.acksOnly p w is m) q came ack up still = (_, refl)
+  ack-out g held _ _ (Decided.shuts p w found is) q came ack up still =
+      let both = segment-came k p q (w .reads) came in
+      absurd (both-ways _ still (subst (λ (x : Key). streamOf x (put (senderOf p) (closed (g .connection (senderOf p))) g) .shut ≡ true) (sym (both .0))
+      (ap (λ (t : Connection). t .stream .shut) (put-same (senderOf p) (closed (g .connection (senderOf p))) g))))
+  ack-out g held _ _ (Decided.replies p out r new n t x) q came ack up still = absurd (none-some refl came)
+  ack-out g held _ _ (Decided.again p r w n) q came ack up still = absurd (none-some refl came)
+  ack-out g held _ _ (Decided.acks p r w own t x) q came ack up still = absurd (none-some refl came)
+  ack-out g held _ _ (Decided.begins p w n) q came ack up still = absurd (none-some refl came)
+  ack-out g held _ _ (Decided.ends p out r w rst n t x) q came ack up still = absurd (none-some refl came)
+
   -- of each segment goes out what is promised for one stream
   pub passed-on : (g : Gate) (e : Event) → among k (g .keys) ≡ true → Goes c k g e → Sounds g → PassedOn c k g e
   passed-on g e held goes sound =
@@ -118,6 +151,7 @@ module _ (c : Config) (small : c .width ≤ 65536) (k : Key) where
         segment = λ p came. let d = segment-step g e f p came in
             rw (d .stream, d .pieces, d .fins) (following.next (c .width) (c .words) (streamOf k g) sound .passedOn (segmentAt (g .connection k) p));
         other = λ without. let d = other-step g e f without in (d .pieces, d .fins);
+        ack = λ p came ack up still. ack-out g held e (verdict c g e) (decided c g e) p came ack up still;
       }
     where
       f : Follows c k g e (streamOf k (next c g e)) (toLooms (answer c g e))

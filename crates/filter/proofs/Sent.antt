@@ -46,7 +46,7 @@ piece-end (Below m) t f =
     (λ _ e. let d : length t - m ≡ f = cc in omega (arith, length-drop m t)) (λ _ e. absurd (none-some refl e))
 
 -- a segment whose FIN stands somewhere has the mark
-fin-parts : (a : Segment) (f : ℕ) → finAt a ≡ Some f → (a .fin ≡ true) × (placeAfter (a .at) (length (a .bytes)) ≡ Some f)
+pub fin-parts : (a : Segment) (f : ℕ) → finAt a ≡ Some f → (a .fin ≡ true) × (placeAfter (a .at) (length (a .bytes)) ≡ Some f)
 fin-parts a f =
     cond-both (a .fin) (placeAfter (a .at) (length (a .bytes))) None (λ x. x ≡ Some f → (a .fin ≡ true) × (placeAfter (a .at) (length (a .bytes)) ≡ Some f))
     (λ marked e. (marked, e)) (λ _ e. absurd (none-some refl e))

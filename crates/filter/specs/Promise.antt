@@ -24,7 +24,7 @@ use Rattle.stream.specs.Promise as oneStream
 use Rattle.filter.specs.Config.{Config, Side, Outside, Looms, opposite, Key, sameKey, keyFrom}
 use Rattle.filter.specs.Gate.{Connection, begun, closed, Gate, among, empty, find, full, put, elapsed}
 use Rattle.filter.specs.Verdict.{Event, Comes, Ticks, Verdict, Refuse, Forward, Update, Begin, End, Shut, Elapse, Answer, Out, Refused, Resets, Quiet, refusalOf, outOf, toLooms}
-use Rattle.filter.specs.Decide.{segmentAt, withoutFin, synAlone, ackedAt, sameBeginning, verdict, next, answer, run}
+use Rattle.filter.specs.Decide.{segmentAt, withoutFin, synAlone, ackedAt, sameBeginning, opensWithBytes, verdict, next, answer, run}
 
 -- a configuration that can be read: the width is at most 65,536, and no word is empty
 pub record Fit (c : Config) : Type 0 where
@@ -145,6 +145,9 @@ pub record PassedOn (c : Config) (k : Key) (g : Gate) (e : Event) : Type 0 where
   pub segment : (p : Packet) → segmentOf k e ≡ Some p →
       oneStream.PassedOn (c .width) (streamOf k g) (segmentAt (g .connection k) p) (streamOf k (next c g e) .shut) (passedBy c k g e) (finishedBy c k g e)
   pub other : segmentOf k e ≡ None → (passedBy c k g e ≡ []) × (finishedBy c k g e ≡ [])
+  -- with an acknowledged number it goes out even where nothing else is left of it
+  pub ack : (p : Packet) → segmentOf k e ≡ Some p → p .ack ≡ true → streamOf k g .shut ≡ false → streamOf k (next c g e) .shut ≡ false →
+      (out : Bytes) × (answer c g e ≡ Out Looms out)
 
 -- every segment of the sender's says what the source says
 abbrev pub Honest : Config → Key → Source → Gate → List Event → Type 0
@@ -227,12 +230,13 @@ abbrev pub AsCame : Event → Bytes → Type 0
 AsCame (Ticks n) out = ⊥
 AsCame (Comes side p) out = out ≡ p
 
--- of a sender's packet the acknowledged number is as it came, and its marks, but that FIN may be taken off;
+-- of a sender's packet the acknowledged number is as it came, and its marks, but that FIN may be taken off, and its number where neither a byte nor FIN is left;
 -- of a loom's the number and the marks, and its bytes, unless it is a reset
 abbrev pub KeepsOwn : Side → Bytes → Bytes → Type 0
 KeepsOwn Outside p out =
     (packet out .acknowledged % 4294967296 ≡ packet p .acknowledged % 4294967296) ×
-    ((packet out .marks ≡ packet p .marks) ⊎ (packet out .marks ≡ withoutFin (packet p .marks)))
+    ((packet out .marks ≡ packet p .marks) ⊎ (packet out .marks ≡ withoutFin (packet p .marks))) ×
+    (packet out .payload ≡ [] → packet out .fin ≡ false → packet out .number % 4294967296 ≡ packet p .number % 4294967296)
 KeepsOwn Looms p out =
     (packet out .number % 4294967296 ≡ packet p .number % 4294967296) × (packet out .marks ≡ packet p .marks) ×
     ((packet out .payload ≡ packet p .payload) ⊎ (packet p .rst ≡ true))
@@ -291,11 +295,11 @@ ReplyPasses c g p =
     (among (keyFrom Looms (packet p)) (g .keys) ≡ true) ⊎ (length (g .keys) < 256) →
     (answer c g (Comes Looms p) ≡ Out Outside p) × (sameBeginning (next c g (Comes Looms p) .connection (keyFrom Looms (packet p))) (packet p) ≡ true)
 
--- a loom's packet goes out as it came where no stream of its is held; SYN with an acknowledged number or with bytes, and RST, are another matter
+-- a loom's other packets go out as they came where no stream of its is held, or where they acknowledge nothing; but an opening with bytes does not
 abbrev pub LoomPasses : Config → Gate → Bytes → Type 0
 LoomPasses c g p =
-    read p ≡ Ok (packet p) → packet p .rst ≡ false → packet p .syn ≡ false → among (keyFrom Looms (packet p)) (g .keys) ≡ false →
-    answer c g (Comes Looms p) ≡ Out Outside p
+    read p ≡ Ok (packet p) → packet p .rst ≡ false → (packet p .syn && packet p .ack) ≡ false → opensWithBytes (packet p) ≡ false → NotShut (keyFrom Looms (packet p)) g →
+    (among (keyFrom Looms (packet p)) (g .keys) ≡ false) ⊎ (packet p .ack ≡ false) → answer c g (Comes Looms p) ≡ Out Outside p
 
 -- a reset of the sender's goes to the loom without its bytes; one of the loom's goes out without its bytes, and its stream is forgotten
 abbrev pub SenderResets : Config → Gate → Bytes → Type 0

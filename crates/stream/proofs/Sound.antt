@@ -90,6 +90,14 @@ none-other : (fin : Option ℕ) (f : ℕ) → noneElsewhere fin f ≡ true → (
 none-other None f e h q = absurd (none-some refl q)
 none-other (Some g) f e h q = let p : g ≡ f = eqb-true g f e in cc
 
+-- a FIN that is kept is the segment's
+pub left-at : (width : ℕ) (s : Stream) (a : Segment) (f : ℕ) → finLeft width s a ≡ Some f → finAt a ≡ Some f
+left-at width s a f = go (finAt a)
+  where
+    go : (x : Option ℕ) → keptFin width s (nextKnown width s (pieceOf a)) x ≡ Some f → x ≡ Some f
+    go None = λ e. e
+    go (Some h) = cond-both (finFits width s (nextKnown width s (pieceOf a)) h) (Some h) None (λ x. x ≡ Some f → Some h ≡ Some f) (λ _ e. e) (λ _ e. absurd (none-some refl e))
+
 module _ (width : ℕ) (words : List Text) (s : Stream) (sound : Sound width words s) (a : Segment) where
   -- a FIN that is kept stands where it may
   pub left-fits : (f : ℕ) → finLeft width s a ≡ Some f → FinFits width s a f
