@@ -1,1 +1,12 @@
+pub mod Acks
+pub mod Counts
+pub mod Decided
+pub mod Few
+pub mod Follows
 pub mod ForwardLaws
+pub mod Handled
+pub mod Kept
+pub mod Keys
+pub mod Passes
+pub mod Runs
+pub mod Sent

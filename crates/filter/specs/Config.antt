@@ -16,6 +16,10 @@ pub data Side : Type 0 where
   Outside : Side
   Looms : Side
 
+abbrev pub opposite : Side → Side
+opposite Outside = Looms
+opposite Looms = Outside
+
 -- a stream: address and port of the sender, outside, and of the loom, inside
 pub record Key : Type 0 where
   pub sender : ℕ

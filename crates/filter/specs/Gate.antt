@@ -1,5 +1,5 @@
 -- What the gate holds: up to 256 streams. Assumes nothing.
-use mathlib.Core.Bool.{Bool, true, false, cond, _||_, not}
+use mathlib.Core.Bool.{Bool, false, cond, _||_, not}
 use mathlib.Core.List.{List, [], _∷_}
 use Prim.Native.Nat.{ℕ, _-_}
 use lib.Dec.{ltb, leb}
@@ -68,3 +68,8 @@ remove k g = record { keys = only (λ x. not (sameKey x k)) (g .keys); connectio
 -- ticks go by: a stream with no more ticks left than these is ended
 abbrev pub elapse : ℕ → Gate → Gate
 elapse n g = record { keys = only (λ x. ltb n (g .connection x .left)) (g .keys); connection = λ x. aged n (g .connection x) }
+
+-- what is held of a stream then
+abbrev pub elapsed : ℕ → Option Connection → Option Connection
+elapsed n None = None
+elapsed n (Some s) = cond (ltb n (s .left)) (Some (aged n s)) None

@@ -3,7 +3,7 @@ use mathlib.Core.Path.{_≡_}
 use mathlib.Core.Bool.{Bool, true, false, cond, _&&_, not}
 use mathlib.Core.List.{List, [], _∷_, _++_, List·Memᴰ}
 use mathlib.Core.Logic.{_⊎_}
-use Prim.Native.Nat.{ℕ, _-_, _<_, _≤_, min, max}
+use Prim.Native.Nat.{ℕ, _-_, _%_, _<_, _≤_, min, max}
 use lib.ListN.{length}
 use Rattle.std.specs.declared.option.Option.{Option}
 use Rattle.std.specs.declared.option.Option.the-variants.{Some, None}
@@ -21,10 +21,10 @@ use Rattle.stream.specs.Steps.{Arrival, Arrives, Acked, pieceOf, finAt, Word, o
 use Rattle.stream.specs.Steps as steps
 use Rattle.stream.specs.Promise.{Sound, OneText, Source, Agrees}
 use Rattle.stream.specs.Promise as oneStream
-use Rattle.filter.specs.Config.{Config, Side, Outside, Looms, Key, sameKey, keyFrom}
-use Rattle.filter.specs.Gate.{Connection, begun, closed, Gate, among, empty, find, full, put}
+use Rattle.filter.specs.Config.{Config, Side, Outside, Looms, opposite, Key, sameKey, keyFrom}
+use Rattle.filter.specs.Gate.{Connection, begun, closed, Gate, among, empty, find, full, put, elapsed}
 use Rattle.filter.specs.Verdict.{Event, Comes, Ticks, Verdict, Refuse, Forward, Update, Begin, End, Shut, Elapse, Answer, Out, Refused, Resets, Quiet, refusalOf, outOf, toLooms}
-use Rattle.filter.specs.Decide.{segmentAt, withoutFin, synAlone, ackedAt, sameBeginning, verdict, next, answer, run}
+use Rattle.filter.specs.Decide.{segmentAt, withoutFin, synAlone, ackedAt, sameBeginning, opensWithBytes, verdict, next, answer, run}
 
 -- a configuration that can be read: the width is at most 65,536, and no word is empty
 pub record Fit (c : Config) : Type 0 where
@@ -145,6 +145,9 @@ pub record PassedOn (c : Config) (k : Key) (g : Gate) (e : Event) : Type 0 where
   pub segment : (p : Packet) → segmentOf k e ≡ Some p →
       oneStream.PassedOn (c .width) (streamOf k g) (segmentAt (g .connection k) p) (streamOf k (next c g e) .shut) (passedBy c k g e) (finishedBy c k g e)
   pub other : segmentOf k e ≡ None → (passedBy c k g e ≡ []) × (finishedBy c k g e ≡ [])
+  -- with an acknowledged number it goes out even where nothing else is left of it
+  pub ack : (p : Packet) → segmentOf k e ≡ Some p → p .ack ≡ true → streamOf k g .shut ≡ false → streamOf k (next c g e) .shut ≡ false →
+      (out : Bytes) × (answer c g e ≡ Out Looms out)
 
 -- every segment of the sender's says what the source says
 abbrev pub Honest : Config → Key → Source → Gate → List Event → Type 0
@@ -194,6 +197,9 @@ pub record Counts (c : Config) (k : Key) (g : Gate) (e : Event) : Type 0 where
   pub lastAck : (p : Packet) → segmentOf k e ≡ Some p → refusalOf (answer c g e) ≡ None →
       next c g e .connection k .lastAck ≡ cond (p .ack) (p .acknowledged) (g .connection k .lastAck)
   pub noAck : segmentOf k e ≡ None → next c g e .connection k .lastAck ≡ g .connection k .lastAck
+  pub refused : (n : ℕ) → refusalOf (answer c g e) ≡ Some n → next c g e .connection k .left ≡ g .connection k .left
+  -- the numbers with which the stream began stay: a place has one number for ever
+  pub numbers : (next c g e .connection k .first ≡ g .connection k .first) × (next c g e .connection k .opening ≡ g .connection k .opening)
 
 pub record Kept (c : Config) (k : Key) (g : Gate) (after : List Event) : Type 0 where
   -- the stream is what all that came to it makes of a blank one
@@ -224,6 +230,34 @@ abbrev pub AsCame : Event → Bytes → Type 0
 AsCame (Ticks n) out = ⊥
 AsCame (Comes side p) out = out ≡ p
 
+-- of a sender's packet the acknowledged number is as it came, and its marks, but that FIN may be taken off, and its number where neither a byte nor FIN is left;
+-- of a loom's the number and the marks, and its bytes, unless it is a reset
+abbrev pub KeepsOwn : Side → Bytes → Bytes → Type 0
+KeepsOwn Outside p out =
+    (packet out .acknowledged % 4294967296 ≡ packet p .acknowledged % 4294967296) ×
+    ((packet out .marks ≡ packet p .marks) ⊎ (packet out .marks ≡ withoutFin (packet p .marks))) ×
+    (packet out .payload ≡ [] → packet out .fin ≡ false → packet out .number % 4294967296 ≡ packet p .number % 4294967296)
+KeepsOwn Looms p out =
+    (packet out .number % 4294967296 ≡ packet p .number % 4294967296) × (packet out .marks ≡ packet p .marks) ×
+    ((packet out .payload ≡ packet p .payload) ⊎ (packet p .rst ≡ true))
+
+-- a packet goes out to the other side than it came from, from the same end of the stream to the other
+pub record Crosses (side : Side) (p : Bytes) (to : Side) (out : Bytes) : Type 0 where
+  pub across : to ≡ opposite side
+  pub source : packet out .source ≡ packet p .source
+  pub sourcePort : packet out .sourcePort ≡ packet p .sourcePort
+  pub destination : packet out .destination ≡ packet p .destination
+  pub destinationPort : packet out .destinationPort ≡ packet p .destinationPort
+  pub keeps : KeepsOwn side p out
+
+-- for ticks nothing goes out
+abbrev pub CrossesBy : Event → Answer → Type 0
+CrossesBy (Ticks n) a = a ≡ Quiet
+CrossesBy (Comes side p) (Out to out) = Crosses side p to out
+CrossesBy (Comes side p) (Refused n) = Unit {0}
+CrossesBy (Comes side p) (Resets loom sender k found) = Unit {0}
+CrossesBy (Comes side p) Quiet = ⊥
+
 -- the loom's packet with which a stream begins or begins anew: SYN with an acknowledged number, which is the number of place 0;
 -- and not both its numbers are those of the beginning in force
 pub record Beginning (c : Config) (k : Key) (g : Gate) (e : Event) : Type 0 where
@@ -248,6 +282,12 @@ SynPasses c g p =
     read p ≡ Ok (packet p) → synAlone (packet p) ≡ true → packet p .payload ≡ [] → NotShut (keyFrom Outside (packet p)) g →
     answer c g (Comes Outside p) ≡ Out Looms p
 
+-- of a stream that is not held nothing else goes to the loom
+abbrev pub NothingElse : Config → Gate → Bytes → Type 0
+NothingElse c g p =
+    among (keyFrom Outside (packet p)) (g .keys) ≡ false → (out : Bytes) → List·Memᴰ out (outOf (answer c g (Comes Outside p))) →
+    (out ≡ p) × (synAlone (packet p) ≡ true) × (packet p .payload ≡ [])
+
 -- a loom's SYN with an acknowledged number goes out as it came, and its stream then has that beginning
 abbrev pub ReplyPasses : Config → Gate → Bytes → Type 0
 ReplyPasses c g p =
@@ -255,11 +295,11 @@ ReplyPasses c g p =
     (among (keyFrom Looms (packet p)) (g .keys) ≡ true) ⊎ (length (g .keys) < 256) →
     (answer c g (Comes Looms p) ≡ Out Outside p) × (sameBeginning (next c g (Comes Looms p) .connection (keyFrom Looms (packet p))) (packet p) ≡ true)
 
--- a loom's packet goes out as it came where no stream of its is held; SYN with an acknowledged number or with bytes, and RST, are another matter
+-- a loom's other packets go out as they came where no stream of its is held, or where they acknowledge nothing; but an opening with bytes does not
 abbrev pub LoomPasses : Config → Gate → Bytes → Type 0
 LoomPasses c g p =
-    read p ≡ Ok (packet p) → packet p .rst ≡ false → packet p .syn ≡ false → among (keyFrom Looms (packet p)) (g .keys) ≡ false →
-    answer c g (Comes Looms p) ≡ Out Outside p
+    read p ≡ Ok (packet p) → packet p .rst ≡ false → (packet p .syn && packet p .ack) ≡ false → opensWithBytes (packet p) ≡ false → NotShut (keyFrom Looms (packet p)) g →
+    (among (keyFrom Looms (packet p)) (g .keys) ≡ false) ⊎ (packet p .ack ≡ false) → answer c g (Comes Looms p) ≡ Out Outside p
 
 -- a reset of the sender's goes to the loom without its bytes; one of the loom's goes out without its bytes, and its stream is forgotten
 abbrev pub SenderResets : Config → Gate → Bytes → Type 0
@@ -307,8 +347,12 @@ pub record Handled (c : Config) (g : Gate) (e : Event) : Type 0 where
   -- and what is done with it depends on its own stream alone, but for whether there is room for another
   pub alone : (k : Key) → OfStream k e → (h : Gate) → find k h ≡ find k g → full h ≡ full g →
       (answer c h e ≡ answer c g e) × (find k (next c h e) ≡ find k (next c g e))
+  -- ticks go by for each stream, whatever the others are
+  pub ticks : (k : Key) (n : ℕ) → e ≡ Ticks n → find k (next c g e) ≡ elapsed n (find k g)
   -- nothing of a stream that is shut goes out to either side, and nothing but ticks touches it
   pub silent : (k : Key) → OfStream k e → among k (g .keys) ≡ true → streamOf k g .shut ≡ true → (next c g e ≡ g) × (outOf (answer c g e) ≡ [])
+  -- what goes out goes to the other side, with what is not the gate's to change
+  pub crosses : CrossesBy e (answer c g e)
   -- what goes out is a right packet
   pub reads : Short e → (out : Bytes) → List·Memᴰ out (outOf (answer c g e)) → read out ≡ Ok (packet out)
   -- it is as it came, or its sums are those worked out afresh
@@ -326,6 +370,7 @@ pub record PromiseFor (c : Config) : Type 0 where
   pub packets : (before : List Event) (e : Event) → Handled c (run c empty before) e
   -- openings, resets and what concerns no stream pass
   pub syns : (before : List Event) (p : Bytes) → SynPasses c (run c empty before) p
+  pub unbegun : (before : List Event) (p : Bytes) → NothingElse c (run c empty before) p
   pub replies : (before : List Event) (p : Bytes) → ReplyPasses c (run c empty before) p
   pub others : (before : List Event) (p : Bytes) → LoomPasses c (run c empty before) p
   pub senderResets : (before : List Event) (p : Bytes) → SenderResets c (run c empty before) p

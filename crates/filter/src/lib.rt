@@ -1,6 +1,7 @@
 // The gate.
 mod connection;
 mod forward;
+pub mod laws;
 mod side;
 mod verdict;
 

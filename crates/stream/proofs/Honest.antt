@@ -1,20 +1,19 @@
 -- From a sender that says one thing of each place nothing is lost, and nothing is changed.
 -- Assumes nothing.
 use mathlib.Core.Path.{_≡_, refl, sym, _∙_, ap, subst}
-use mathlib.Core.Bool.{true, false}
-use mathlib.Core.List.{List, [], _∷_, _++_, List·Memᴰ, List·Memᴰ·head, List·Memᴰ·tail}
+use mathlib.Core.List.{List, [], _∷_, _++_, List·Memᴰ·head, List·Memᴰ·tail}
 use mathlib.Core.Logic.{⊎-elim}
 use Prim.Native.Nat.{ℕ, _+_, _<_, _≤_}
 use native.Mathlib.Omega.{arith}
-use lib.ListN.{length, getD}
+use lib.ListN.{length}
 use Rattle.std.specs.Finite.{nth}
 use Rattle.std.specs.declared.option.Option.{Option}
 use Rattle.std.specs.declared.option.Option.the-variants.{Some, None}
 use Rattle.std.proofs.shelf.Maps.{nth-getD}
 use Rattle.std.proofs.shelf.Tests.{cases-lt}
 use Rattle.automaton.specs.Text.{Text}
-use Rattle.window.specs.Known.{Piece, byteOf, byteOr}
-use Rattle.window.proofs.PieceLaws.{none-some, none-since, from, from-start, start-from, head-from, rest-from, or-either, learn-from, cut-inside}
+use Rattle.window.specs.Known.{byteOr}
+use Rattle.window.proofs.PieceLaws.{none-some, none-since, from, start-from, head-from, rest-from, or-either, learn-from, cut-inside}
 use Rattle.stream.specs.Stream.{Stream, blank, upTo, windowEnd, inner, nextKnown}
 use Rattle.stream.specs.Steps.{Segment, Arrival, Arrives, Acked, pieceOf, finAt, Outcome, outcome, after, step, passedBy, finsBy, run}
 use Rattle.stream.specs.Promise.{Sound, FinFits, WordCame, Source, BeforeEnd, Says, Agrees, Honest, front, FrontOf, PassedOn, GoesOut}

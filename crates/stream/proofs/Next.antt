@@ -1,28 +1,29 @@
 -- What is done with what comes next to a stream.
 -- Assumes nothing.
 use mathlib.Core.Path.{_≡_, refl, sym, _∙_, ap, ap₂, subst}
-use mathlib.Core.Bool.{true, false, cond}
+use mathlib.Core.Bool.{true, false, cond, _&&_}
 use mathlib.Core.List.{List, [], _∷_, _++_, List·Memᴰ, List·Memᴰ·head, List·Memᴰ·not-nil, List·Memᴰ·eq-of-singleton}
-use mathlib.Core.Logic.{_⊎_, ⊎-elim}
-use Prim.Native.Nat.{ℕ, _+_, _-_, _<_, _≤_}
+use mathlib.Core.Logic.{_⊎_, inl, inr, ⊎-elim}
+use Prim.Native.Nat.{ℕ, _+_, _-_, _≤_}
 use native.Mathlib.Omega.{arith}
+use lib.Dec.{eqb}
 use lib.ListN.{length}
 use Rattle.std.specs.Options.{isSome}
 use Rattle.std.specs.declared.option.Option.{Option}
 use Rattle.std.specs.declared.option.Option.the-variants.{Some, None}
 use Rattle.std.proofs.shelf.Lists.{append-nil}
-use Rattle.std.proofs.shelf.Tests.{both-ways, cond-both, cond-true, cond-false, and-from, le-leb, lt-ltb, eq-eqb}
+use Rattle.std.proofs.shelf.Tests.{both-ways, cond-both, cond-true, cond-false, and-from, le-leb, lt-ltb, eq-eqb, ne-eqb}
 use Rattle.automaton.specs.Text.{Text}
-use Rattle.automaton.specs.Look.{Found, look}
+use Rattle.automaton.specs.Look.{look}
 use Rattle.automaton.proofs.LookLaws.{look-law}
 use Rattle.sequence.specs.Places.{Place, Below, At}
 use Rattle.window.specs.Known.{Piece, byteOf, byteOr, learn, orElse, overlay, onwards}
-use Rattle.window.proofs.PieceLaws.{none-some, head-from, from-nil, learn-keeps, learn-from, overlay-at, overlay-from, known-none, cut-inside, inside-cut, cut-again}
+use Rattle.window.proofs.PieceLaws.{none-some, head-from, from-nil, learn-keeps, learn-from, or-either, overlay-at, overlay-from, known-none, cut-inside, inside-cut, cut-again}
 use Rattle.stream.specs.Stream.{Stream, upTo, windowEnd, inner, nextKnown, newText, noneElsewhere, finFits, keptFin, acknowledgedTo}
 use Rattle.stream.specs.Steps.{Segment, Arrival, Arrives, Acked, pieceOf, finAt, finLeft, pieceLeft, Outcome, Passed, Empty, Word, Closed, onLook, outcome, after, step, pieceIn, finIn, piecesOf, finsOf, passedBy, finsBy}
 use Rattle.stream.specs.Promise.{FirstPart, Sound, Inner, Came, FinFits, PassedOn, WordCame, Next}
 use Rattle.stream.proofs.Outcomes.{Done, closed, word, empty, passes, done}
-use Rattle.stream.proofs.Sound.{next-text-known, left-fits}
+use Rattle.stream.proofs.Sound.{next-text-known, left-at, left-fits}
 
 -- pieces and FINs that go out
 
@@ -164,6 +165,18 @@ module _ (width : ℕ) (words : List Text) (s : Stream) (a : Segment) where
   after-keeps (Word found) j b e = e
   after-keeps Closed j b e = e
 
+  after-learns : (o : Outcome) (j b : ℕ) → after width s a o .known j ≡ Some b → (s .known j ≡ Some b) ⊎ (byteOf (inner width s (pieceOf a)) j ≡ Some b)
+  after-learns (Passed p fin) j b e = learn-from (inner width s (pieceOf a)) (s .known) j b e
+  after-learns Empty j b e = inl e
+  after-learns (Word found) j b e = inl e
+  after-learns Closed j b e = inl e
+
+  done-learns-fin : (o : Outcome) → Done width words s a o → (f : ℕ) → after width s a o .fin ≡ Some f → (s .fin ≡ Some f) ⊎ (finAt a ≡ Some f)
+  done-learns-fin _ (closed shut) f e = inl e
+  done-learns-fin _ (word u found l) f e = inl e
+  done-learns-fin _ (empty u l none nofin) f e = inl e
+  done-learns-fin _ (passes u l) f e = ⊎-elim (λ new. inr (left-at width s a f new)) inl (or-either (finLeft width s a) (s .fin) f e)
+
   after-grows : (o : Outcome) → FirstPart (s .text) (after width s a o .text)
   after-grows (Passed p fin) = (newText width s (pieceOf a), refl)
   after-grows Empty = ([], sym (append-nil (s .text)))
@@ -214,7 +227,7 @@ module _ (width : ℕ) (words : List Text) (s : Stream) where
   grows (Arrives a) = after-grows width words s a (outcome width words s a)
   grows (Acked i) = acked-cases (λ (t : Stream). FirstPart (s .text) (t .text)) i ([], sym (append-nil (s .text))) (λ _. ([], sym (append-nil (s .text))))
 
-  stays : s .shut ≡ true → (a : Arrival) → (step width words s a ≡ s) × (passedBy width words s a ≡ []) × (finsBy width words s a ≡ [])
+  pub stays : s .shut ≡ true → (a : Arrival) → (step width words s a ≡ s) × (passedBy width words s a ≡ []) × (finsBy width words s a ≡ [])
   stays shut (Arrives a) =
       let none : outcome width words s a ≡ Closed = cond-true (s .shut) Closed _ shut in
       (ap (after width s a) none, ap piecesOf none, ap finsOf none)
@@ -228,14 +241,22 @@ module _ (width : ℕ) (words : List Text) (s : Stream) where
         cutAgain = cut-again (s .low) (upTo (s .fin) (windowEnd width s));
         shuts = λ a up h. word-came width words s a sound up (outcome width words s a) refl (done width words s a) h;
         stays = stays;
+        learns = λ a. after-learns width words s a (outcome width words s a);
+        learnsFin = λ a. done-learns-fin width words s a (outcome width words s a) (done width words s a);
         keeps = keeps;
         keepsFin = keepsFin;
         grows = grows;
         low = λ a. after-low width words s a (outcome width words s a);
         acked = λ i up. cond-false (s .shut) s (acknowledgedTo (At i) s) up;
         ackedBelow = λ n. cond-both (s .shut) s s (λ t. t ≡ s) (λ _. refl) (λ _. refl);
+        limit = λ none. go (s .fin) refl none;
+        limitFin = λ e. rw e (cond-true (eqb (length (s .text)) (length (s .text))) _ _ (eq-eqb (length (s .text)) (length (s .text)) refl));
       }
     where
+      go : (x : Option ℕ) → s .fin ≡ x → (s .fin ≡ Some (length (s .text)) → ⊥) → cond (isSome x && noneElsewhere x (length (s .text))) (length (s .text) + 1) (length (s .text)) ≡ length (s .text)
+      go None e none = refl
+      go (Some f) e none = cond-false (eqb f (length (s .text))) _ _ (ne-eqb f (length (s .text)) (λ is. none (e ∙ ap Some is)))
+
       keepsFin : (a : Arrival) (f : ℕ) → s .fin ≡ Some f → step width words s a .fin ≡ Some f
       keepsFin (Arrives a) f e = fin-stays width words s a sound (outcome width words s a) (done width words s a) f e
       keepsFin (Acked i) f e = acked-cases (λ (t : Stream). t .fin ≡ Some f) i e (λ _. e)

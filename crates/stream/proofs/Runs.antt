@@ -2,13 +2,11 @@
 -- Assumes nothing.
 use mathlib.Core.Path.{_≡_, refl, sym, _∙_, ap, subst}
 use mathlib.Core.Bool.{true, false}
-use mathlib.Core.List.{List, [], _∷_, _++_, List·Memᴰ, List·Memᴰ·not-nil, List·Memᴰ·append-cases}
+use mathlib.Core.List.{List, [], _∷_, _++_, List·Memᴰ, List·Memᴰ·not-nil, List·Memᴰ·append-cases, append-assoc}
 use mathlib.Core.Logic.{⊎-elim}
-use Prim.Native.Nat.{ℕ, _<_, _≤_}
-use native.Mathlib.Omega.{arith}
-use lib.ListN.{length, drop, getD}
+use Prim.Native.Nat.{ℕ, _≤_}
+use lib.ListN.{length, drop}
 use Rattle.std.specs.Finite.{nth}
-use Rattle.std.specs.declared.option.Option.{Option}
 use Rattle.std.specs.declared.option.Option.the-variants.{Some}
 use Rattle.std.proofs.shelf.Maps.{nth-getD}
 use Rattle.std.proofs.shelf.Tests.{both-ways, cases-bool, cases-lt}
@@ -16,9 +14,8 @@ use Rattle.automaton.specs.Text.{Text}
 use Rattle.window.specs.Known.{Piece, byteOf, orElse}
 use Rattle.window.proofs.PieceLaws.{none-some, Extends, start-from, from-same, overlay-known}
 use Rattle.stream.specs.Stream.{Stream, inner}
-use Rattle.stream.specs.Steps.{Segment, Arrival, Arrives, Acked, pieceOf, finLeft, pieceLeft, Outcome, outcome, after, step, piecesOf, finsOf, passedBy, finsBy, run, passed, fins}
-use Rattle.stream.specs.Machine.{Given}
-use Rattle.stream.specs.Promise.{FirstPart, Sound, WordCame, ShutFor}
+use Rattle.stream.specs.Steps.{Segment, Arrival, Arrives, Acked, pieceOf, pieceLeft, Outcome, outcome, after, step, piecesOf, finsOf, passedBy, finsBy, run, passed, fins}
+use Rattle.stream.specs.Promise.{FirstPart, Sound, ShutFor}
 use Rattle.stream.proofs.Outcomes.{Done, closed, word, empty, passes, done}
 use Rattle.stream.proofs.Sound.{step-sound}
 use Rattle.stream.proofs.Next.{in-piece, done-fins, acked-cases, next}
@@ -46,6 +43,26 @@ module _ (width : ℕ) (words : List Text) where
   step-finned : (s : Stream) (a : Arrival) (f : ℕ) → List·Memᴰ f (finsBy width words s a) → step width words s a .fin ≡ Some f
   step-finned s (Arrives a) f m = done-finned s a (outcome width words s a) (done width words s a) f m
   step-finned s (Acked i) f m = absurd (List·Memᴰ·not-nil m)
+
+  -- arrivals, and more after them
+  pub run-append : (s : Stream) (before more : List Arrival) → run width words s (before ++ more) ≡ run width words (run width words s before) more
+  unfolding run
+  run-append s [] more = refl
+  run-append s (a ∷ before) more = run-append (step width words s a) before more
+
+  pub passed-append : (s : Stream) (before more : List Arrival) →
+      passed width words s (before ++ more) ≡ passed width words s before ++ passed width words (run width words s before) more
+  unfolding run passed
+  passed-append s [] more = refl
+  passed-append s (a ∷ before) more =
+      ap (λ x. passedBy width words s a ++ x) (passed-append (step width words s a) before more) ∙ sym (append-assoc (passedBy width words s a) _ _)
+
+  pub fins-append : (s : Stream) (before more : List Arrival) →
+      fins width words s (before ++ more) ≡ fins width words s before ++ fins width words (run width words s before) more
+  unfolding run fins
+  fins-append s [] more = refl
+  fins-append s (a ∷ before) more =
+      ap (λ x. finsBy width words s a ++ x) (fins-append (step width words s a) before more) ∙ sym (append-assoc (finsBy width words s a) _ _)
 
   pub run-sound : (s : Stream) (arrivals : List Arrival) → Sound width words s → Sound width words (run width words s arrivals)
   unfolding run
@@ -91,7 +108,7 @@ module _ (width : ℕ) (words : List Text) where
           (cases-lt (length (s .text)) (length t))
 
   -- a shut stream stays as it is
-  run-stays : (s : Stream) (arrivals : List Arrival) → Sound width words s → s .shut ≡ true → run width words s arrivals ≡ s
+  pub run-stays : (s : Stream) (arrivals : List Arrival) → Sound width words s → s .shut ≡ true → run width words s arrivals ≡ s
   unfolding run
   run-stays s [] sound h = refl
   run-stays s (a ∷ rest) sound h =

@@ -1,24 +1,25 @@
 -- What stays true of a stream, whatever comes.
 -- Assumes nothing.
 use mathlib.Core.Path.{_≡_, refl, sym, _∙_, ap}
-use mathlib.Core.Bool.{true, false}
+use mathlib.Core.Bool.{true}
 use mathlib.Core.List.{List, _++_}
-use mathlib.Core.Logic.{_⊎_, inl, inr, ⊎-elim}
+use mathlib.Core.Logic.{⊎-elim}
 use Prim.Native.Nat.{ℕ, _+_, _-_, _<_, _≤_}
 use native.Mathlib.Omega.{arith}
-use lib.Dec.{leb, ltb, eqb}
+use lib.Dec.{leb, ltb}
 use lib.ListN.{length, length-append}
 use Rattle.std.specs.Finite.{nth}
 use Rattle.std.specs.Options.{isSome}
 use Rattle.std.specs.declared.option.Option.{Option}
 use Rattle.std.specs.declared.option.Option.the-variants.{Some, None}
+use Rattle.std.proofs.shelf.Maps.{nth-getD}
 use Rattle.std.proofs.shelf.Tests.{cond-both, and-parts, leb-true, ltb-true, eqb-true, cases-lt}
-use Rattle.automaton.specs.Text.{Text, has, nonempty}
+use Rattle.automaton.specs.Text.{Text, nonempty}
 use Rattle.automaton.specs.Look.{look}
 use Rattle.automaton.proofs.LookLaws.{no-word-in-nil, look-law}
 use Rattle.sequence.specs.Places.{Place, Below, At}
 use Rattle.window.specs.Known.{Known, Piece, byteOf}
-use Rattle.window.proofs.PieceLaws.{none-some, none-since, Extends, append-start, learn-keeps, learn-from, learn-none, or-either, onwards-known, onwards-ends, none-known, cut-inside, Inside}
+use Rattle.window.proofs.PieceLaws.{none-some, none-since, append-start, learn-keeps, learn-none, or-either, onwards-known, onwards-ends, none-known, cut-inside}
 use Rattle.stream.specs.Stream.{Stream, blank, upTo, windowEnd, inner, nextKnown, newText, noneElsewhere, finFits, keptFin, acknowledgedTo, taken}
 use Rattle.stream.specs.Steps.{Segment, Arrival, Arrives, Acked, pieceOf, finAt, finLeft, Outcome, outcome, after, step}
 use Rattle.stream.specs.Promise.{Sound, FinFits}
@@ -35,6 +36,12 @@ blank-sound width words n =
       finWithin = λ f e. absurd (none-some refl e);
       finLast = λ f j e l. refl;
     }
+
+-- the text ends in the window
+pub text-within : (width : ℕ) (words : List Text) (s : Stream) → Sound width words s → length (s .text) ≤ windowEnd width s
+text-within width words s sound =
+    ⊎-elim (λ l. absurd (none-some (sound .above _ (omega arith)) (sound .textKnown _ _ (nth-getD (s .text) (windowEnd width s) 0 l)))) (λ l. l)
+    (cases-lt (windowEnd width s) (length (s .text)))
 
 -- up to a known FIN and up to the window's end
 up-to : (fin : Option ℕ) (n j : ℕ) → j < upTo fin n → (j < n) × ((f : ℕ) → fin ≡ Some f → j < f)
@@ -82,6 +89,14 @@ fits-so width s known f e =
 none-other : (fin : Option ℕ) (f : ℕ) → noneElsewhere fin f ≡ true → (h : ℕ) → fin ≡ Some h → h ≡ f
 none-other None f e h q = absurd (none-some refl q)
 none-other (Some g) f e h q = let p : g ≡ f = eqb-true g f e in cc
+
+-- a FIN that is kept is the segment's
+pub left-at : (width : ℕ) (s : Stream) (a : Segment) (f : ℕ) → finLeft width s a ≡ Some f → finAt a ≡ Some f
+left-at width s a f = go (finAt a)
+  where
+    go : (x : Option ℕ) → keptFin width s (nextKnown width s (pieceOf a)) x ≡ Some f → x ≡ Some f
+    go None = λ e. e
+    go (Some h) = cond-both (finFits width s (nextKnown width s (pieceOf a)) h) (Some h) None (λ x. x ≡ Some f → Some h ≡ Some f) (λ _ e. e) (λ _ e. absurd (none-some refl e))
 
 module _ (width : ℕ) (words : List Text) (s : Stream) (sound : Sound width words s) (a : Segment) where
   -- a FIN that is kept stands where it may

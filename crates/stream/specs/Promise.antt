@@ -13,8 +13,8 @@ use Rattle.automaton.specs.Look.{Found}
 use Rattle.automaton.specs.LookLaw.{FirstWord}
 use Rattle.sequence.specs.Places.{Below, At}
 use Rattle.window.specs.Known.{Piece, byteOf, byteOr}
-use Rattle.stream.specs.Stream.{Stream, blank, windowEnd, upTo, inner, nextKnown}
-use Rattle.stream.specs.Steps.{Segment, Arrival, Arrives, Acked, pieceOf, finAt, Outcome, Word, outcome, step, passedBy, finsBy, run, passed, fins}
+use Rattle.stream.specs.Stream.{Stream, blank, windowEnd, upTo, inner, nextKnown, ackLimit}
+use Rattle.stream.specs.Steps.{Segment, Arrival, Arrives, Acked, pieceOf, finAt, Word, outcome, step, passedBy, finsBy, run, passed, fins}
 use Rattle.stream.specs.Machine.{Machine, Plays, Given}
 
 -- a text is a first part of another
@@ -84,6 +84,9 @@ pub record Next (width : ℕ) (words : List Text) (s : Stream) : Type 0 where
   pub shuts : (a : Segment) → s .shut ≡ false → step width words s (Arrives a) .shut ≡ true → WordCame width words s a
   -- once shut it stays as it is, and nothing goes out
   pub stays : s .shut ≡ true → (a : Arrival) → (step width words s a ≡ s) × (passedBy width words s a ≡ []) × (finsBy width words s a ≡ [])
+  -- only what came becomes known
+  pub learns : (a : Segment) (j b : ℕ) → step width words s (Arrives a) .known j ≡ Some b → (s .known j ≡ Some b) ⊎ (byteOf (inner width s (pieceOf a)) j ≡ Some b)
+  pub learnsFin : (a : Segment) (f : ℕ) → step width words s (Arrives a) .fin ≡ Some f → (s .fin ≡ Some f) ⊎ (finAt a ≡ Some f)
   -- what is known stays known, and the text only grows
   pub keeps : (a : Arrival) (j b : ℕ) → s .known j ≡ Some b → step width words s a .known j ≡ Some b
   pub keepsFin : (a : Arrival) (f : ℕ) → s .fin ≡ Some f → step width words s a .fin ≡ Some f
@@ -93,6 +96,9 @@ pub record Next (width : ℕ) (words : List Text) (s : Stream) : Type 0 where
   pub acked : (i : ℕ) → s .shut ≡ false → step width words s (Acked (At i)) ≡
       record { low = max (s .low) (min i (length (s .text))); known = s .known; text = s .text; fin = s .fin; shut = s .shut }
   pub ackedBelow : (n : ℕ) → step width words s (Acked (Below n)) ≡ s
+  -- the receiver may acknowledge up to the end of the text, and one more where the known FIN stands there
+  pub limit : (s .fin ≡ Some (length (s .text)) → ⊥) → ackLimit s ≡ length (s .text)
+  pub limitFin : s .fin ≡ Some (length (s .text)) → ackLimit s ≡ length (s .text) + 1
 
 -- What the sender says
 

@@ -1,7 +1,7 @@
 -- Bytes at places: a piece, the part of it in a window, what is learned and passed on of it, what is known without a gap.
 -- Assumes nothing.
 use mathlib.Core.Path.{_≡_, refl, sym, _∙_, ap, ap₂}
-use mathlib.Core.Bool.{Bool, true, false, not}
+use mathlib.Core.Bool.{true}
 use mathlib.Core.List.{List, [], _∷_, _++_}
 use mathlib.Core.Logic.{_⊎_, inl, inr, ⊎-elim}
 use Prim.Native.Nat.{ℕ, zero, suc, _+_, _-_, _<_, _≤_, max}
@@ -14,8 +14,9 @@ use Rattle.std.specs.Options.{isSome}
 use Rattle.std.specs.declared.option.Option.{Option}
 use Rattle.std.specs.declared.option.Option.the-variants.{Some, None}
 use Rattle.std.proofs.shelf.Lists.{length-take, take-all}
-use Rattle.std.proofs.shelf.Tests.{both-ways, le-leb, leb-true, cond-true, cond-both, and-parts, and-from, not-true}
+use Rattle.std.proofs.shelf.Tests.{both-ways, le-leb, leb-true, cond-true, cond-both}
 use Rattle.window.specs.Known.{Known, Piece, byteOf, orElse, cut, learn, byteOr, overlay, onByte, onwards, noneKnown}
+use Rattle.window.proofs.KnownLaws.{noneKnown-decides}
 
 pub none-some : {A : Type 0} {x : Option A} {a : A} → x ≡ None → x ≡ Some a → ⊥
 none-some {x = x} e h = both-ways (isSome x) (ap isSome e) (ap isSome h)
@@ -124,11 +125,6 @@ learn-none p f j a b = ap₂ orElse a b
 
 -- What is passed on
 
-pub length-overlay : (f : Known) (i : ℕ) (bs : List ℕ) → length (overlay f i bs) ≡ length bs
-unfolding overlay
-length-overlay f i [] = refl
-length-overlay f i (b ∷ bs) = ap suc (length-overlay f (i + 1) bs)
-
 -- each byte goes out at its place, unless another is known there
 pub overlay-at : (f : Known) (i : ℕ) (bs : List ℕ) (j b : ℕ) → from i bs j ≡ Some b → from i (overlay f i bs) j ≡ Some (byteOr (f j) b)
 unfolding overlay
@@ -184,24 +180,10 @@ onwards-ends (suc n) i f = on-ends f n i (onwards n (i + 1) f) (f i) refl (onwar
 
 -- no byte is known at the places that were tested
 pub none-known : (n i : ℕ) (f : Known) → noneKnown n i f ≡ true → (j : ℕ) → i ≤ j → j < i + n → f j ≡ None
-unfolding noneKnown
-none-known zero i f e j l u = absurd (omega arith)
-none-known (suc n) i f e j l u =
-    let parts = and-parts (not (isSome (f i))) _ e in
-    go (j - i) refl (λ m. none-known n (i + 1) f (parts .1) j m (omega arith)) (not-true _ (parts .0))
-  where
-    unknown : (x : Option ℕ) → isSome x ≡ false → x ≡ None
-    unknown None h = refl
-    unknown (Some b) h = absurd (both-ways _ h refl)
-
-    go : (k : ℕ) → j - i ≡ k → (i + 1 ≤ j → f j ≡ None) → isSome (f i) ≡ false → f j ≡ None
-    go zero d later h = let s : j ≡ i = omega arith in rw s (unknown (f i) h)
-    go (suc k) d later h = later (omega arith)
+none-known n i f e j l u = let q : i + (j - i) ≡ j = omega arith in rw q at (noneKnown-decides n i f .0 e (j - i) (omega arith))
 
 pub known-none : (n i : ℕ) (f : Known) → ((j : ℕ) → i ≤ j → f j ≡ None) → noneKnown n i f ≡ true
-unfolding noneKnown
-known-none zero i f h = refl
-known-none (suc n) i f h = and-from _ _ (ap (λ x. not (isSome x)) (h i (omega arith))) (known-none n (i + 1) f (λ j l. h j (omega arith)))
+known-none n i f h = noneKnown-decides n i f .1 (λ k l. h (i + k) (omega arith))
 
 -- The part of a piece in a window
 
