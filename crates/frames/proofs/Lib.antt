@@ -1,0 +1,3 @@
+pub mod ItemLaws
+pub mod ListBounds
+pub mod ConfigLaws
