@@ -210,7 +210,10 @@ fn table(rt: LibcRuntime) -> Result<(), Fail> {
 #[test]
 fn refusals(rt: LibcRuntime) -> Result<(), Fail> {
     for case in &REFUSED {
-        check_eq(fault_of(rt.alloc(), case.list), refused(case.refusal, case.at))?;
+        check_eq(
+            fault_of(rt.alloc(), case.list),
+            refused(case.refusal, case.at),
+        )?;
     }
     Ok(())
 }
@@ -220,7 +223,10 @@ fn cut_anywhere(rt: LibcRuntime) -> Result<(), Fail> {
     let bytes = b"\x02\x03abc\x02bd";
     let faults = [0, 1, 1, 1, 1, 5, 5, 5];
     for (n, at) in faults.iter().enumerate() {
-        check_eq(fault_of(rt.alloc(), &bytes[0..n]), refused(ListRefusal::Cut, *at))?;
+        check_eq(
+            fault_of(rt.alloc(), &bytes[0..n]),
+            refused(ListRefusal::Cut, *at),
+        )?;
     }
     check_eq(fault_of(rt.alloc(), bytes), None)
 }
@@ -236,9 +242,15 @@ fn full_size(rt: LibcRuntime) -> Result<(), Fail> {
         check_eq(Table::build(heap, &list)?.states(), 4097)?;
     }
     let too_many = numbered(heap, 129, 1)?;
-    check_eq(fault_of(heap, &too_many), refused(ListRefusal::TooMuch, 257))?;
+    check_eq(
+        fault_of(heap, &too_many),
+        refused(ListRefusal::TooMuch, 257),
+    )?;
     let too_long = numbered(heap, 65, 64)?;
-    check_eq(fault_of(heap, &too_long), refused(ListRefusal::TooMuch, 4161))
+    check_eq(
+        fault_of(heap, &too_long),
+        refused(ListRefusal::TooMuch, 4161),
+    )
 }
 
 // The words are the bytes below 128: each of the 256 bytes is looked at.

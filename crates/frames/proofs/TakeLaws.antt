@@ -13,7 +13,7 @@ use Rattle.std.specs.Transfers.{Filled}
 use Rattle.std.proofs.shelf.Lists.{length-drop, length-take-le, refilled-is}
 use Rattle.packet.specs.Bytes.{Bytes}
 use Rattle.frames.specs.Items.{Event, comes, ReadEvent, ReadsItem, Placed, eventOf, item}
-use Rattle.frames.specs.Buffer.{pending, placed}
+use Rattle.frames.specs.Buffer.{Inside, pending, placed}
 use Rattle.frames.specs.Configs.{ReadsConfig, configuration, settingsOf}
 use Rattle.frames.specs.declared.config.Config.{Config}
 use Rattle.frames.specs.declared.fault.Refusal.{Refusal}
@@ -25,8 +25,10 @@ use Rattle.frames.proofs.BufferLaws.{grown-part, length-part, part-part, part-
 pub record Took (xs : Bytes) (a e n : ℕ) (it : Item) : Type 0 where
   pub reads : item (take (e - a) (drop a xs)) ≡ Ok (record { event = eventOf xs it; taken = n })
   pub placed : Placed a n it
+  pub inside : Inside xs it
   pub some : 0 < n
   pub within : n ≤ length (take (e - a) (drop a xs))
+  pub fewer : e - (a + n) < e - a
   pub left : take (e - (a + n)) (drop (a + n) xs) ≡ drop n (take (e - a) (drop a xs))
 
 module _ (xs : Bytes) (a e : ℕ) (forward : a ≤ e) (within : e ≤ length xs) where
@@ -38,13 +40,23 @@ module _ (xs : Bytes) (a e : ℕ) (forward : a ≤ e) (within : e ≤ length xs)
       record {
         reads = r .0 ∙ ap (λ (t : Bytes). Ok (record { event = comes side t; taken = n })) (sym q);
         placed = (omega (arith, p .0), omega (arith, p .1), omega (arith, p .2));
+        inside = (omega (arith, p .2), omega (arith, r .3, p .1));
         some = r .2;
         within = r .3;
+        fewer = omega (arith, r .2, r .3);
         left = part-rest xs a e forward within n (omega (arith, r .3));
       }
   took-placed (Ticks t) n r =
       let l = length-part xs a e forward within in
-      record { reads = r .0; placed = tt; some = r .2; within = r .3; left = part-rest xs a e forward within n (omega (arith, r .3)) }
+      record {
+        reads = r .0;
+        placed = tt;
+        inside = tt;
+        some = r .2;
+        within = r .3;
+        fewer = omega (arith, r .2, r .3);
+        left = part-rest xs a e forward within n (omega (arith, r .3));
+      }
 
   pub took : (ys : Bytes) (it jt : Item) (n : ℕ) → ys ≡ xs → jt ≡ placed a it → ReadsItem item (take (e - a) (drop a ys)) (Ok (it, n)) → Took xs a e n jt
   took ys it jt n same at r = subst (λ (j : Item). Took xs a e n j) (sym at) (took-placed it n (subst (λ (zs : Bytes). ReadsItem item (take (e - a) (drop a zs)) (Ok (it, n))) same r))
@@ -55,6 +67,12 @@ module _ (xs : Bytes) (a e : ℕ) (forward : a ≤ e) (within : e ≤ length xs)
       let s = subst (λ (zs : Bytes). ReadsConfig (take (e - a) (drop a zs)) (Ok (c, n))) same r in
       let l = length-part xs a e forward within in
       (s .0, s .1, part-rest xs a e forward within n (omega (arith, s .1)))
+
+-- the buffer was lent as a slice: what is not read yet is still within it
+pub lent-within : (i : Input) (ds ws : Bytes) → ds ≡ vec-items (i .buffer) → length ws ≡ length ds → i .end ≤ length (vec-items (refilled (i .buffer) ws))
+lent-within i ds ws lent long =
+    let s : length (vec-items (refilled (i .buffer) ws)) ≡ length (vec-items (i .buffer)) = ap length (refilled-is (i .buffer) ws (long ∙ ap length lent ∙ sym (i .buffer .ok .0))) ∙ long ∙ ap length lent in
+    omega (arith, i .within)
 
 -- reading into a buffer of which a Vec is lent as a slice
 module _ (v : Input) (ds ws : Bytes) (lent : ds ≡ vec-items (v .buffer)) (long : length ws ≡ length ds) (same : take (v .end) ws ≡ take (v .end) ds) where

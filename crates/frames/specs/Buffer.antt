@@ -54,7 +54,18 @@ TookConfig i j (Ok c) = ((n : ℕ) × (configuration (pending i) ≡ Ok (record 
 TookConfig i j (Err Memory) = SameInput i j
 TookConfig i j (Err (Refused f)) = ((at : ℕ) × (configuration (pending i) ≡ Err (record { refusal = f .refusal; at = at })) × (f .at ≡ (i .offset + at) % 2 ^ 64) × SameInput i j)
 
--- an item was read; a packet's bytes stand in the buffer where the item says
+abbrev pub Inside : Bytes → Item → Type 0
+Inside bs (Packet side start end) = (start ≤ end) × (end ≤ length bs)
+Inside bs (Ticks n) = Unit {0}
+
+-- an item of n bytes was read; a packet's bytes stand in the buffer where the item says
+pub record Took (i j : Input) (it : Item) (n : ℕ) : Type 0 where
+  pub event : item (pending i) ≡ Ok (record { event = eventOf (vec-items (j .buffer)) it; taken = n })
+  pub at : Placed (i .start) n it
+  pub inside : Inside (vec-items (j .buffer)) it
+  pub read : Read i j n
+  pub fewer : j .end - j .start < i .end - i .start
+
 abbrev pub TookItem : Input → Input → Result Item Fault → Type 0
-TookItem i j (Ok it) = ((n : ℕ) × (0 < n) × (item (pending i) ≡ Ok (record { event = eventOf (vec-items (j .buffer)) it; taken = n })) × Placed (i .start) n it × Read i j n)
+TookItem i j (Ok it) = ((n : ℕ) × Took i j it n)
 TookItem i j (Err f) = (item (pending i) ≡ Err (f .refusal)) × (f .at ≡ i .offset) × SameInput i j

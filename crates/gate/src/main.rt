@@ -1,4 +1,7 @@
 // The gate between the outside and the looms: reads packets and ticks, passes on what may pass.
+ghost use Prim.Native.Nat.{_≤_};
+ghost use lib.ListN.{length};
+use filter::Side;
 use frames::Config;
 use frames::ConfigError;
 use frames::Fault;
@@ -71,16 +74,23 @@ fn read_config<R: Read>(
     Err(gave_up())
 }
 
+// What is done with a packet that stands in a buffer: until there is a filter, every one is dropped.
+fn take_packet(_side: Side, buffer: &mut [u8], start: usize, end: usize)
+    requires { ⌜ start ≤ end ⌝ ∗ ⌜ end ≤ length (now buffer) ⌝ }
+{
+    let _packet = &mut buffer[start..end];
+}
+
 // Handles the items that have come whole, and says what ends the reading for now.
 fn take_items(input: &mut Input) -> Fault {
     loop {
-        match input.next_item() {
-            // every packet is dropped
-            Ok(Item::Packet { start, end, .. }) => {
-                let _packet = &mut input.buffer[start..end];
-            }
-            Ok(Item::Ticks(_)) => {}
+        let item = match input.next_item() {
+            Ok(item) => item,
             Err(fault) => return fault,
+        };
+        match item {
+            Item::Packet { side, start, end } => take_packet(side, &mut input.buffer, start, end),
+            Item::Ticks(_) => {}
         }
     }
 }

@@ -1,7 +1,5 @@
-use mathlib.Core.Path.{refl, _∙_, ap}
+use mathlib.Core.Path.{refl}
 use native.Mathlib.Omega.{arith}
-use Prim.Native.Nat.{_-_}
-use lib.ListN.{take, drop}
 use Rattle.std.specs.Of.Vec.{vec-items}
 use Rattle.frames.proofs.BufferLaws.{moved-part}
 use Rattle.frames.proofs.input.Input.compact.Needs as need
@@ -11,7 +9,7 @@ returns-then-start-gt0 c =
     let i = c .args .self .now in
     record {
       same = record {
-        left = ap (λ t. take ((i .end - i .start) - 0) (drop 0 t)) (c .copy-within .ensures .items) ∙ moved-part (vec-items (i .buffer)) (i .start) (i .end) (i .forward) (i .within);
+        left = rw (c .copy-within .ensures .items) (moved-part (vec-items (i .buffer)) (i .start) (i .end) (i .forward) (i .within));
         offset = refl;
         size = omega (arith, c .copy-within .ensures .len, c .copy-within .last .self .ok .0, i .buffer .ok .0);
       };

@@ -35,8 +35,7 @@ returns g c =
     let v = c .compact .last .self in
     let n = c .in-Continue-count .count in
     let ws = c .read-behind .last .buffer in
-    let e = c .in-Continue-count .ensures tt in
-    (
+    let e = c .in-Continue-count .ensures tt in (
       take n (drop (v .end) ws),
       filled-long v (c .deref-mut .result .now) ws (c .deref-mut .ensures .value) (c .read-behind .kept .buffer) (e .same) n (e .count),
       filled-some v (c .deref-mut .result .now) ws (c .deref-mut .ensures .value) (c .read-behind .kept .buffer) (e .same) n (e .count) ∙ ap (λ (t : List _). t ++ take n (drop (v .end) ws)) (c .compact .ensures .same .left),
