@@ -17,131 +17,131 @@ use std::alloc::AllocError;
 use std::alloc::Global;
 use std::test::*;
 
-struct Look {
+struct LookCase {
     list: &'static [u8],
     text: &'static [u8],
     finding: Finding,
 }
 
-const LOOKS: [Look; 14] = [
-    Look {
+const LOOK_CASES: [LookCase; 14] = [
+    LookCase {
         list: b"\x02\x03abc\x02bd",
         text: b"ab",
         finding: Finding::Clean(2),
     },
-    Look {
+    LookCase {
         list: b"\x02\x03abc\x02bd",
         text: b"xabcd",
         finding: Finding::Found(3, 0),
     },
     // one word goes on within another
-    Look {
+    LookCase {
         list: b"\x02\x03abc\x02bd",
         text: b"abd",
         finding: Finding::Found(2, 1),
     },
-    Look {
+    LookCase {
         list: b"\x02\x03abc\x02bd",
         text: b"",
         finding: Finding::Clean(0),
     },
-    Look {
+    LookCase {
         list: b"\x01\x03aab",
         text: b"aaab",
         finding: Finding::Found(3, 0),
     },
     // a word inside another
-    Look {
+    LookCase {
         list: b"\x02\x04abcd\x02bc",
         text: b"abcd",
         finding: Finding::Found(2, 1),
     },
-    Look {
+    LookCase {
         list: b"\x02\x04abcd\x01c",
         text: b"abx",
         finding: Finding::Clean(0),
     },
     // words that share beginnings
-    Look {
+    LookCase {
         list: b"\x03\x03abc\x03abd\x02xa",
         text: b"ababd",
         finding: Finding::Found(4, 1),
     },
-    Look {
+    LookCase {
         list: b"\x02\x04abcd\x02ab",
         text: b"xxab",
         finding: Finding::Found(3, 1),
     },
     // the longest of those that end at one place, wherever it stands in the list
-    Look {
+    LookCase {
         list: b"\x03\x01c\x03abc\x02bc",
         text: b"abc",
         finding: Finding::Found(2, 1),
     },
     // words of one byte
-    Look {
+    LookCase {
         list: b"\x02\x01\x00\x01\xff",
         text: b"ab\xff\x00",
         finding: Finding::Found(2, 1),
     },
-    Look {
+    LookCase {
         list: b"\x01\x01a",
         text: b"bcd",
         finding: Finding::Clean(0),
     },
     // no words
-    Look {
+    LookCase {
         list: b"\x00",
         text: b"abc",
         finding: Finding::Clean(0),
     },
     // what comes after the list does not count
-    Look {
+    LookCase {
         list: b"\x01\x01a\x01b",
         text: b"b",
         finding: Finding::Clean(0),
     },
 ];
 
-struct Refused {
+struct RefusedCase {
     list: &'static [u8],
     refusal: ListRefusal,
     at: usize,
 }
 
-const REFUSED: [Refused; 7] = [
-    Refused {
+const REFUSED_CASES: [RefusedCase; 7] = [
+    RefusedCase {
         list: b"",
         refusal: ListRefusal::Cut,
         at: 0,
     },
-    Refused {
+    RefusedCase {
         list: b"\x02\x01a",
         refusal: ListRefusal::Cut,
         at: 3,
     },
-    Refused {
+    RefusedCase {
         list: b"\x02\x01a\x02b",
         refusal: ListRefusal::Cut,
         at: 3,
     },
-    Refused {
+    RefusedCase {
         list: b"\x02\x01a\x00",
         refusal: ListRefusal::TooMuch,
         at: 3,
     },
-    Refused {
+    RefusedCase {
         list: b"\x01\x41a",
         refusal: ListRefusal::TooMuch,
         at: 1,
     },
-    Refused {
+    RefusedCase {
         list: b"\x03\x02ab\x01a\x02ab",
         refusal: ListRefusal::Twice,
         at: 6,
     },
     // of the first word with a fault, though the list is cut behind it
-    Refused {
+    RefusedCase {
         list: b"\x04\x01a\x01a\x00",
         refusal: ListRefusal::Twice,
         at: 3,
@@ -155,7 +155,7 @@ fn fault_of(heap: Global, bytes: &[u8]) -> Option<ListError> {
     }
 }
 
-fn refused(refusal: ListRefusal, at: usize) -> Option<ListError> {
+fn fault(refusal: ListRefusal, at: usize) -> Option<ListError> {
     Some(ListError::Fault(ListFault { refusal, at }))
 }
 
@@ -176,7 +176,7 @@ fn numbered(heap: Global, count: u8, len: u8) -> Result<Vec<u8>, AllocError> {
 #[test]
 fn looks(rt: LibcRuntime) -> Result<(), Fail> {
     let heap = rt.alloc();
-    for case in &LOOKS {
+    for case in &LOOK_CASES {
         let (list, _) = WordList::read(heap, case.list)?;
         let table = Table::build(heap, &list)?;
         check_eq(table.look(0, case.text), case.finding)?;
@@ -185,7 +185,7 @@ fn looks(rt: LibcRuntime) -> Result<(), Fail> {
 }
 
 #[test]
-fn table(rt: LibcRuntime) -> Result<(), Fail> {
+fn two_words(rt: LibcRuntime) -> Result<(), Fail> {
     let heap = rt.alloc();
     let (list, taken) = WordList::read(heap, b"\x02\x03abc\x02bd and more")?;
     check_eq(taken, 8)?;
@@ -209,10 +209,10 @@ fn table(rt: LibcRuntime) -> Result<(), Fail> {
 
 #[test]
 fn refusals(rt: LibcRuntime) -> Result<(), Fail> {
-    for case in &REFUSED {
+    for case in &REFUSED_CASES {
         check_eq(
             fault_of(rt.alloc(), case.list),
-            refused(case.refusal, case.at),
+            fault(case.refusal, case.at),
         )?;
     }
     Ok(())
@@ -225,7 +225,7 @@ fn cut_anywhere(rt: LibcRuntime) -> Result<(), Fail> {
     for (n, at) in faults.iter().enumerate() {
         check_eq(
             fault_of(rt.alloc(), &bytes[0..n]),
-            refused(ListRefusal::Cut, *at),
+            fault(ListRefusal::Cut, *at),
         )?;
     }
     check_eq(fault_of(rt.alloc(), bytes), None)
@@ -242,15 +242,9 @@ fn full_size(rt: LibcRuntime) -> Result<(), Fail> {
         check_eq(Table::build(heap, &list)?.states(), 4097)?;
     }
     let too_many = numbered(heap, 129, 1)?;
-    check_eq(
-        fault_of(heap, &too_many),
-        refused(ListRefusal::TooMuch, 257),
-    )?;
+    check_eq(fault_of(heap, &too_many), fault(ListRefusal::TooMuch, 257))?;
     let too_long = numbered(heap, 65, 64)?;
-    check_eq(
-        fault_of(heap, &too_long),
-        refused(ListRefusal::TooMuch, 4161),
-    )
+    check_eq(fault_of(heap, &too_long), fault(ListRefusal::TooMuch, 4161))
 }
 
 // The words are the bytes below 128: each of the 256 bytes is looked at.
