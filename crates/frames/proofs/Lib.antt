@@ -1,0 +1,5 @@
+pub mod ItemLaws
+pub mod ListBounds
+pub mod ConfigLaws
+pub mod BufferLaws
+pub mod TakeLaws
