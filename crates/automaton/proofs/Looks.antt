@@ -165,7 +165,7 @@ scanned-front rows tells (b ∷ bs) s i at w k e ek = go k ek (scanned-front row
     go (suc m) ek h None g = h m g (omega arith)
 
 -- nor do they for the look
-look-on : (ws : List Text) (xs ys t : Text) (f : looks.Found) → look ws t xs ≡ Some f → look ws t (xs ++ ys) ≡ Some f
+pub look-on : (ws : List Text) (xs ys t : Text) (f : looks.Found) → look ws t xs ≡ Some f → look ws t (xs ++ ys) ≡ Some f
 unfolding look
 look-on ws [] ys t f e = absurd (let z : _≡_ {A = ℕ} 0 1 = cc in omega arith)
 look-on ws (x ∷ xs) ys t f e = go (look-on ws xs ys (t ++ (x ∷ [])) f) (lastWord ws (t ++ (x ∷ []))) e

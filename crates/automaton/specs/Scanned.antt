@@ -35,3 +35,8 @@ Judged ws t bytes (Found i w) = (i < length bytes) × (w < length ws) × (look w
 -- so for every list of words that the table is right for, and every text that leads to the state
 abbrev pub Finds : List ℕ → List (Option ℕ) → ℕ → List ℕ → Finding → Type 0
 Finds rows tells s bytes r = (ws : List Text) (t : Text) → Right ws rows tells → s ≡ run ws 0 t → Judged ws t bytes r
+
+-- a word is found among the n bytes that are looked at
+abbrev pub Among : ℕ → Finding → Type 0
+Among n (Clean s) = Unit {0}
+Among n (Found i w) = i < n

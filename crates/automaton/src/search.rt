@@ -6,7 +6,7 @@ ghost use lib.ListN.{getD, length};
 ghost use Rattle.std.specs.Options.{Cases};
 ghost use Rattle.std.specs.Vec.{made};
 ghost use Rattle.automaton.specs.ReadList.{texts};
-ghost use Rattle.automaton.specs.Scanned.{Judged};
+ghost use Rattle.automaton.specs.Scanned.{Among, Judged};
 ghost use Rattle.automaton.specs.States.{goto, run, states, tellsOf};
 ghost use Rattle.automaton.specs.Tables.{TableOf};
 ghost use Rattle.automaton.specs.Text.{Text};
@@ -33,7 +33,8 @@ impl Table {
     // Looks at some bytes after a text that led to a state, one after the other, up to the first that completes a word.
     // A number that is no state counts as the start.
     pub fn look(&self, state: u16, bytes: &[u8]) -> Finding
-        ensures { λ r. ⌜ ((ws : List Text) (t : Text) → TableOf ws (now (self .entry)) → state ≡ run ws 0 t → Judged ws t (now (bytes .entry)) r) ⌝ }
+        ensures among { λ r. ⌜ Among (length (now (bytes .entry))) r ⌝ }
+        ensures finds { λ r. ⌜ ((ws : List Text) (t : Text) → TableOf ws (now (self .entry)) → state ≡ run ws 0 t → Judged ws t (now (bytes .entry)) r) ⌝ }
     {
         let start = if usize::from(state) < self.tells.len() {
             state

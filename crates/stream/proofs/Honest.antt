@@ -14,9 +14,9 @@ use Rattle.std.proofs.shelf.Maps.{nth-getD}
 use Rattle.std.proofs.shelf.Tests.{cases-lt}
 use Rattle.automaton.specs.Text.{Text}
 use Rattle.window.specs.Known.{Piece, byteOf, byteOr}
-use Rattle.window.proofs.KnownLaws.{none-some, none-since, from, from-start, start-from, head-from, rest-from, or-either, learn-from, cut-inside}
+use Rattle.window.proofs.PieceLaws.{none-some, none-since, from, from-start, start-from, head-from, rest-from, or-either, learn-from, cut-inside}
 use Rattle.stream.specs.Stream.{Stream, blank, upTo, windowEnd, inner, nextKnown}
-use Rattle.stream.specs.Steps.{Segment, Arrival, Arrives, Acked, pieceOf, finAt, Outcome, outcome, after, step, run}
+use Rattle.stream.specs.Steps.{Segment, Arrival, Arrives, Acked, pieceOf, finAt, Outcome, outcome, after, step, passedBy, finsBy, run}
 use Rattle.stream.specs.Promise.{Sound, FinFits, WordCame, Source, BeforeEnd, Says, Agrees, Honest, front, FrontOf, PassedOn, GoesOut}
 use Rattle.stream.proofs.Outcomes.{Done, closed, word, empty, passes, done}
 use Rattle.stream.proofs.Sound.{step-sound, left-fits}
@@ -89,7 +89,7 @@ module _ (width : ℕ) (words : List Text) (source : Source) (s : Stream) (sound
           last = λ j m. none-since _ (λ b h. let lt : j < f = subst (λ (x : Option ℕ). BeforeEnd x j) (agrees .finish f e) (next-says j b h .1) in omega arith);
         }
 
-    pub goes-out : GoesOut width words s a
+    pub goes-out : GoesOut width s a (step width words s (Arrives a) .shut) (passedBy width words s (Arrives a)) (finsBy width words s (Arrives a))
     goes-out =
         record {
           bytes = λ up j b e l u.
@@ -99,7 +99,7 @@ module _ (width : ℕ) (words : List Text) (source : Source) (s : Stream) (sound
           finish = λ up f e l u. on .fin up f (fin-fits f e l u);
         }
       where
-        on : PassedOn width words s a
+        on : PassedOn width s a (step width words s (Arrives a) .shut) (passedBy width words s (Arrives a)) (finsBy width words s (Arrives a))
         on = next width words s sound .passedOn a
 
   step-from : (a : Arrival) → ((x : Segment) → a ≡ Arrives x → Agrees source x) → FromSource source (step width words s a)

@@ -11,7 +11,7 @@ use Rattle.std.proofs.shelf.Tests.{cases-lt}
 use Rattle.automaton.specs.Text.{Text, has, nonempty}
 use Rattle.automaton.proofs.LookLaws.{has-first}
 use Rattle.window.specs.Known.{Piece, byteOf}
-use Rattle.window.proofs.KnownLaws.{none-some, Extends}
+use Rattle.window.proofs.PieceLaws.{none-some, Extends}
 use Rattle.stream.specs.Stream.{Stream, blank}
 use Rattle.stream.specs.Steps.{Arrival, Arrives, run, passed, fins}
 use Rattle.stream.specs.Machine.{Given}
@@ -46,14 +46,16 @@ module _ (width : ℕ) (words : List Text) (full : nonempty words ≡ true) (arr
   fin-last f m q n j b e =
       ⊎-elim (λ l. l) (λ l. absurd (none-some (sound .finLast f j (fins-known width words blank arrivals begins f m) l) (known q n j b e))) (cases-lt j f)
 
-  unharmed : (source : Source) → Honest source arrivals → Unharmed width words source arrivals
+  from : (source : Source) → Honest source arrivals → FromSource source s
+  from source honest = run-from width words source blank arrivals begins (blank-from source) honest
+
+  unharmed : (source : Source) → Honest source arrivals → Unharmed words source s (passed width words blank arrivals) (fins width words blank arrivals)
   unharmed source honest =
       record {
-        text = front-of source (s .text) (λ j b e. from .known j b (sound .textKnown j b e));
-        says = λ q m j b e. from .known j b (known q m j b e);
-        finish = λ f m. from .finish f (fins-known width words blank arrivals begins f m);
-        given = λ t given. front-of source t (λ j b e. from .known j b (given-known t given j b e));
-        goesOut = λ a agrees. goes-out width words source s sound from a agrees;
+        text = front-of source (s .text) (λ j b e. from source honest .known j b (sound .textKnown j b e));
+        says = λ q m j b e. from source honest .known j b (known q m j b e);
+        finish = λ f m. from source honest .finish f (fins-known width words blank arrivals begins f m);
+        given = λ t given. front-of source t (λ j b e. from source honest .known j b (given-known t given j b e));
         shuts = λ h.
             let w = run-shuts width words blank arrivals begins refl h in
             let was = run width words blank (w .before) in
@@ -65,24 +67,24 @@ module _ (width : ℕ) (words : List Text) (full : nonempty words ≡ true) (arr
               w .word .word,
             );
       }
-    where
-      from : FromSource source s
-      from = run-from width words source blank arrivals begins (blank-from source) honest
 
   pub kept : Kept width words arrivals
   kept =
       record {
-        agree = λ p q m n j b d e h. let x = known p m j b e in let y = known q n j d h in cc;
-        oneFin = λ f h m n. let x = fins-known width words blank arrivals begins f m in let y = fins-known width words blank arrivals begins h n in cc;
-        finLast = fin-last;
-        oneText = one-text;
-        machines = λ m plays.
-            let front = one-text (m .given) (machines-give (passed width words blank arrivals) m plays) in
-            (front, has-first words (m .given) (front .0) (subst (λ (t : Text). has words t ≡ false) (front .1) (sound .clean)));
+        oneText = record {
+          agree = λ p q m n j b d e h. let x = known p m j b e in let y = known q n j d h in cc;
+          oneFin = λ f h m n. let x = fins-known width words blank arrivals begins f m in let y = fins-known width words blank arrivals begins h n in cc;
+          finLast = fin-last;
+          given = one-text;
+          machines = λ m plays.
+              let front = one-text (m .given) (machines-give (passed width words blank arrivals) m plays) in
+              (front, has-first words (m .given) (front .0) (subst (λ (t : Text). has words t ≡ false) (front .1) (sound .clean)));
+        };
         sound = sound;
         shuts = run-shuts width words blank arrivals begins refl;
         next = next width words s sound;
         honest = unharmed;
+        goesOut = λ source honest a agrees. goes-out width words source s sound (from source honest) a agrees;
       }
 
 pub promise : Promise

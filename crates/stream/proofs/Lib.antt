@@ -5,3 +5,8 @@ pub mod Next
 pub mod Outcomes
 pub mod Runs
 pub mod Sound
+pub mod LookLaws
+pub mod WindowFacts
+pub mod PartLaws
+pub mod TakeLaws
+pub mod MarkLaws

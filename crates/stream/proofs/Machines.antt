@@ -10,7 +10,7 @@ use Rattle.std.specs.declared.option.Option.{Option}
 use Rattle.std.specs.declared.option.Option.the-variants.{Some, None}
 use Rattle.std.proofs.shelf.Tests.{cond-both}
 use Rattle.window.specs.Known.{Piece, byteOf, onwards}
-use Rattle.window.proofs.KnownLaws.{none-some, append-start, onwards-known}
+use Rattle.window.proofs.PieceLaws.{none-some, append-start, onwards-known}
 use Rattle.stream.specs.Machine.{Machine, keepOr, Plays, starts, stores, forgets, gives, MachinesGive}
 
 -- the byte stands at the place in one of the pieces

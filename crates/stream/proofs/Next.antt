@@ -17,7 +17,7 @@ use Rattle.automaton.specs.Look.{Found, look}
 use Rattle.automaton.proofs.LookLaws.{look-law}
 use Rattle.sequence.specs.Places.{Place, Below, At}
 use Rattle.window.specs.Known.{Piece, byteOf, byteOr, learn, orElse, overlay, onwards}
-use Rattle.window.proofs.KnownLaws.{none-some, head-from, from-nil, learn-keeps, learn-from, overlay-at, overlay-from, known-none, cut-inside, inside-cut, cut-again}
+use Rattle.window.proofs.PieceLaws.{none-some, head-from, from-nil, learn-keeps, learn-from, overlay-at, overlay-from, known-none, cut-inside, inside-cut, cut-again}
 use Rattle.stream.specs.Stream.{Stream, upTo, windowEnd, inner, nextKnown, newText, noneElsewhere, finFits, keptFin, acknowledgedTo}
 use Rattle.stream.specs.Steps.{Segment, Arrival, Arrives, Acked, pieceOf, finAt, finLeft, pieceLeft, Outcome, Passed, Empty, Word, Closed, onLook, outcome, after, step, pieceIn, finIn, piecesOf, finsOf, passedBy, finsBy}
 use Rattle.stream.specs.Promise.{FirstPart, Sound, Inner, Came, FinFits, PassedOn, WordCame, Next}
@@ -123,7 +123,7 @@ module _ (width : ℕ) (words : List Text) (s : Stream) (a : Segment) where
   done-fins _ (passes u l) f m = in-fin (finLeft width s a) f m
 
   module _ (sound : Sound width words s) where
-    passed-on : PassedOn width words s a
+    passed-on : PassedOn width s a (step width words s (Arrives a) .shut) (passedBy width words s (Arrives a)) (finsBy width words s (Arrives a))
     passed-on =
         record {
           one = one-piece (outcome width words s a);

@@ -14,7 +14,7 @@ use Rattle.std.proofs.shelf.Maps.{nth-getD}
 use Rattle.std.proofs.shelf.Tests.{both-ways, cases-bool, cases-lt}
 use Rattle.automaton.specs.Text.{Text}
 use Rattle.window.specs.Known.{Piece, byteOf, orElse}
-use Rattle.window.proofs.KnownLaws.{none-some, Extends, start-from, from-same, overlay-known}
+use Rattle.window.proofs.PieceLaws.{none-some, Extends, start-from, from-same, overlay-known}
 use Rattle.stream.specs.Stream.{Stream, inner}
 use Rattle.stream.specs.Steps.{Segment, Arrival, Arrives, Acked, pieceOf, finLeft, pieceLeft, Outcome, outcome, after, step, piecesOf, finsOf, passedBy, finsBy, run, passed, fins}
 use Rattle.stream.specs.Machine.{Given}

@@ -18,7 +18,7 @@ use Rattle.automaton.specs.Look.{look}
 use Rattle.automaton.proofs.LookLaws.{no-word-in-nil, look-law}
 use Rattle.sequence.specs.Places.{Place, Below, At}
 use Rattle.window.specs.Known.{Known, Piece, byteOf}
-use Rattle.window.proofs.KnownLaws.{none-some, none-since, Extends, append-start, learn-keeps, learn-from, learn-none, or-either, onwards-known, onwards-ends, none-known, cut-inside, Inside}
+use Rattle.window.proofs.PieceLaws.{none-some, none-since, Extends, append-start, learn-keeps, learn-from, learn-none, or-either, onwards-known, onwards-ends, none-known, cut-inside, Inside}
 use Rattle.stream.specs.Stream.{Stream, blank, upTo, windowEnd, inner, nextKnown, newText, noneElsewhere, finFits, keptFin, acknowledgedTo, taken}
 use Rattle.stream.specs.Steps.{Segment, Arrival, Arrives, Acked, pieceOf, finAt, finLeft, Outcome, outcome, after, step}
 use Rattle.stream.specs.Promise.{Sound, FinFits}

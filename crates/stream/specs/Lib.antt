@@ -1,4 +1,9 @@
+pub mod Looked
 pub mod Machine
+pub mod Marks
+pub mod Part
 pub mod Promise
 pub mod Steps
+pub mod Shown
 pub mod Stream
+pub mod Took

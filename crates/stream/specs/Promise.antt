@@ -1,6 +1,6 @@
 -- What is promised of one direction of a stream, whatever comes, with places already worked out. Each is a type; a proof of the type is the theorem. Assumes nothing.
 use mathlib.Core.Path.{_≡_}
-use mathlib.Core.Bool.{true, false}
+use mathlib.Core.Bool.{Bool, true, false}
 use mathlib.Core.List.{List, [], _∷_, _++_, List·Memᴰ}
 use mathlib.Core.Logic.{_⊎_}
 use Prim.Native.Nat.{ℕ, zero, suc, _+_, _<_, _≤_, min, max}
@@ -55,15 +55,14 @@ pub record FinFits (width : ℕ) (s : Stream) (a : Segment) (f : ℕ) : Type 0 w
   pub last : (j : ℕ) → f ≤ j → nextKnown width s (pieceOf a) j ≡ None
 
 -- while the stream stays open, of a segment go out the bytes inside, in one piece, and no others: each at its place, the known byte in place of what came;
--- and its FIN, if it may stand there
-pub record PassedOn (width : ℕ) (words : List Text) (s : Stream) (a : Segment) : Type 0 where
-  pub one : length (passedBy width words s (Arrives a)) ≤ 1
-  pub some : (q : Piece) → List·Memᴰ q (passedBy width words s (Arrives a)) → (j : ℕ) × (d : ℕ) × (byteOf q j ≡ Some d)
-  pub all : step width words s (Arrives a) .shut ≡ false → (j b : ℕ) → byteOf (pieceOf a) j ≡ Some b → Inner width s j →
-      (q : Piece) × List·Memᴰ q (passedBy width words s (Arrives a)) × (byteOf q j ≡ Some (byteOr (s .known j) b))
-  pub only : (q : Piece) → List·Memᴰ q (passedBy width words s (Arrives a)) → (j d : ℕ) → byteOf q j ≡ Some d → Came width s a j d
-  pub fin : step width words s (Arrives a) .shut ≡ false → (f : ℕ) → FinFits width s a f → List·Memᴰ f (finsBy width words s (Arrives a))
-  pub finOnly : (f : ℕ) → List·Memᴰ f (finsBy width words s (Arrives a)) → FinFits width s a f
+-- and its FIN, if it may stand there. shut: is the stream shut then; pieces, finished: what goes out
+pub record PassedOn (width : ℕ) (s : Stream) (a : Segment) (shut : Bool) (pieces : List Piece) (finished : List ℕ) : Type 0 where
+  pub one : length pieces ≤ 1
+  pub some : (q : Piece) → List·Memᴰ q pieces → (j : ℕ) × (d : ℕ) × (byteOf q j ≡ Some d)
+  pub all : shut ≡ false → (j b : ℕ) → byteOf (pieceOf a) j ≡ Some b → Inner width s j → (q : Piece) × List·Memᴰ q pieces × (byteOf q j ≡ Some (byteOr (s .known j) b))
+  pub only : (q : Piece) → List·Memᴰ q pieces → (j d : ℕ) → byteOf q j ≡ Some d → Came width s a j d
+  pub fin : shut ≡ false → (f : ℕ) → FinFits width s a f → List·Memᴰ f finished
+  pub finOnly : (f : ℕ) → List·Memᴰ f finished → FinFits width s a f
 
 -- with the segment the text would go on to one that has a word in it, each byte of which was known before or is the segment's own;
 -- what is found is the first byte that completes a word, and the longest word that it completes
@@ -76,7 +75,7 @@ pub record WordCame (width : ℕ) (words : List Text) (s : Stream) (a : Segment)
   pub is : outcome width words s a ≡ Word found
 
 pub record Next (width : ℕ) (words : List Text) (s : Stream) : Type 0 where
-  pub passedOn : (a : Segment) → PassedOn width words s a
+  pub passedOn : (a : Segment) → PassedOn width s a (step width words s (Arrives a) .shut) (passedBy width words s (Arrives a)) (finsBy width words s (Arrives a))
   -- what lies outside the window changes nothing: all depends on the part inside, and on where the FIN stands
   pub alike : (a b : Segment) → inner width s (pieceOf a) ≡ inner width s (pieceOf b) → finAt a ≡ finAt b →
       (outcome width words s a ≡ outcome width words s b) × (step width words s (Arrives a) ≡ step width words s (Arrives b))
@@ -129,24 +128,33 @@ pub record FrontOf (source : Source) (t : Text) : Type 0 where
   pub within : (f : ℕ) → source .end ≡ Some f → length t ≤ f
 
 -- while the stream stays open, a segment goes out with each of its bytes that lies in the window, at its place and as it came; and with its FIN, if that lies in the window
-pub record GoesOut (width : ℕ) (words : List Text) (s : Stream) (a : Segment) : Type 0 where
-  pub bytes : step width words s (Arrives a) .shut ≡ false → (j b : ℕ) → byteOf (pieceOf a) j ≡ Some b → s .low ≤ j → j < windowEnd width s →
-      (q : Piece) × List·Memᴰ q (passedBy width words s (Arrives a)) × (byteOf q j ≡ Some b)
-  pub finish : step width words s (Arrives a) .shut ≡ false → (f : ℕ) → finAt a ≡ Some f → s .low ≤ f → f < windowEnd width s →
-      List·Memᴰ f (finsBy width words s (Arrives a))
+pub record GoesOut (width : ℕ) (s : Stream) (a : Segment) (shut : Bool) (pieces : List Piece) (finished : List ℕ) : Type 0 where
+  pub bytes : shut ≡ false → (j b : ℕ) → byteOf (pieceOf a) j ≡ Some b → s .low ≤ j → j < windowEnd width s → (q : Piece) × List·Memᴰ q pieces × (byteOf q j ≡ Some b)
+  pub finish : shut ≡ false → (f : ℕ) → finAt a ≡ Some f → s .low ≤ f → f < windowEnd width s → List·Memᴰ f finished
 
--- from an honest sender nothing is lost, and nothing is changed
-pub record Unharmed (width : ℕ) (words : List Text) (source : Source) (arrivals : List Arrival) : Type 0 where
-  pub text : FrontOf source (run width words blank arrivals .text)
+-- from an honest sender nothing is changed: the stream as it is then, and all that went out
+pub record Unharmed (words : List Text) (source : Source) (s : Stream) (pieces : List Piece) (finished : List ℕ) : Type 0 where
+  pub text : FrontOf source (s .text)
   -- what goes out is what the source says, and what a machine is given of it is a front of the source
-  pub says : (q : Piece) → List·Memᴰ q (passed width words blank arrivals) → (j b : ℕ) → byteOf q j ≡ Some b → Says source j b
-  pub finish : (f : ℕ) → List·Memᴰ f (fins width words blank arrivals) → source .end ≡ Some f
-  pub given : (t : Text) → Given (passed width words blank arrivals) t → FrontOf source t
-  -- and all that it says in the window goes out
-  pub goesOut : (a : Segment) → Agrees source a → GoesOut width words (run width words blank arrivals) a
-  pub shuts : run width words blank arrivals .shut ≡ true → (t : Text) × FrontOf source t × (has words t ≡ true)
+  pub says : (q : Piece) → List·Memᴰ q pieces → (j b : ℕ) → byteOf q j ≡ Some b → Says source j b
+  pub finish : (f : ℕ) → List·Memᴰ f finished → source .end ≡ Some f
+  pub given : (t : Text) → Given pieces t → FrontOf source t
+  -- the stream is shut only if a word stands in what the source says
+  pub shuts : s .shut ≡ true → (t : Text) × FrontOf source t × (has words t ≡ true)
 
 -- The promise for one stream
+
+-- all that went out says one thing of each place, and the text says the same
+pub record OneText (words : List Text) (text : Text) (pieces : List Piece) (finished : List ℕ) : Type 0 where
+  -- any two pieces say the same wherever both have a byte
+  pub agree : (p q : Piece) → List·Memᴰ p pieces → List·Memᴰ q pieces → (j b d : ℕ) → byteOf p j ≡ Some b → byteOf q j ≡ Some d → b ≡ d
+  -- all FINs stand at one place, and no byte at or after it
+  pub oneFin : (f h : ℕ) → List·Memᴰ f finished → List·Memᴰ h finished → f ≡ h
+  pub finLast : (f : ℕ) → List·Memᴰ f finished → (q : Piece) → List·Memᴰ q pieces → (j b : ℕ) → byteOf q j ≡ Some b → j < f
+  -- whatever a machine may have given its program is a first part of the text
+  pub given : (t : Text) → Given pieces t → FirstPart t text
+  -- so whatever a machine does with what goes out to it, its program is given a first part of the text, and no word
+  pub machines : (m : Machine) → Plays pieces m → FirstPart (m .given) text × (has words (m .given) ≡ false)
 
 -- one of the arrivals was a segment with which the text would have got a word; the text is still what it was then
 pub record ShutFor (width : ℕ) (words : List Text) (s : Stream) (arrivals : List Arrival) : Type 0 where
@@ -160,25 +168,19 @@ pub record ShutFor (width : ℕ) (words : List Text) (s : Stream) (arrivals : Li
 
 -- for all that came to a stream since its beginning
 pub record Kept (width : ℕ) (words : List Text) (arrivals : List Arrival) : Type 0 where
-  -- any two pieces that went out say the same wherever both have a byte
-  pub agree : (p q : Piece) → List·Memᴰ p (passed width words blank arrivals) → List·Memᴰ q (passed width words blank arrivals) →
-      (j b d : ℕ) → byteOf p j ≡ Some b → byteOf q j ≡ Some d → b ≡ d
-  -- all FINs that went out stand at one place, and no byte went out at or after it
-  pub oneFin : (f h : ℕ) → List·Memᴰ f (fins width words blank arrivals) → List·Memᴰ h (fins width words blank arrivals) → f ≡ h
-  pub finLast : (f : ℕ) → List·Memᴰ f (fins width words blank arrivals) → (q : Piece) → List·Memᴰ q (passed width words blank arrivals) →
-      (j b : ℕ) → byteOf q j ≡ Some b → j < f
-  -- whatever a machine may have given its program is a first part of the text
-  pub oneText : (t : Text) → Given (passed width words blank arrivals) t → FirstPart t (run width words blank arrivals .text)
-  -- so whatever a machine does with what goes out to it, its program is given a first part of the text, and no word
-  pub machines : (m : Machine) → Plays (passed width words blank arrivals) m → FirstPart (m .given) (run width words blank arrivals .text) × (has words (m .given) ≡ false)
+  pub oneText : OneText words (run width words blank arrivals .text) (passed width words blank arrivals) (fins width words blank arrivals)
   -- the text, what is known, and low
   pub sound : Sound width words (run width words blank arrivals)
   -- the stream is shut only for a segment with which the text would have got a word
   pub shuts : run width words blank arrivals .shut ≡ true → ShutFor width words blank arrivals
   -- what is done with what comes next
   pub next : Next width words (run width words blank arrivals)
-  -- nothing is lost of what an honest sender says
-  pub honest : (source : Source) → Honest source arrivals → Unharmed width words source arrivals
+  -- from an honest sender nothing is changed, and nothing is lost of what comes next
+  pub honest : (source : Source) → Honest source arrivals →
+      Unharmed words source (run width words blank arrivals) (passed width words blank arrivals) (fins width words blank arrivals)
+  pub goesOut : (source : Source) → Honest source arrivals → (a : Segment) → Agrees source a →
+      GoesOut width (run width words blank arrivals) a (step width words (run width words blank arrivals) (Arrives a) .shut)
+      (passedBy width words (run width words blank arrivals) (Arrives a)) (finsBy width words (run width words blank arrivals) (Arrives a))
 
 abbrev pub Promise : Type 0
 Promise = (width : ℕ) (words : List Text) → nonempty words ≡ true → (arrivals : List Arrival) → Kept width words arrivals

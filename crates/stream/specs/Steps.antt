@@ -8,9 +8,9 @@ use Rattle.std.specs.declared.option.Option.{Option}
 use Rattle.std.specs.declared.option.Option.the-variants.{Some, None}
 use Rattle.automaton.specs.Text.{Text}
 use Rattle.automaton.specs.Look.{Found, look}
-use Rattle.sequence.specs.Places.{Place}
+use Rattle.sequence.specs.Places.{Place, placeAfter}
 use Rattle.window.specs.Known.{Piece}
-use Rattle.stream.specs.Stream.{Stream, pieceAt, placeAfter, inner, nextKnown, newText, passedPart, keptFin, shutDown, acknowledgedTo, taken}
+use Rattle.stream.specs.Stream.{Stream, pieceAt, inner, nextKnown, newText, passedPart, keptFin, shutDown, acknowledgedTo, taken}
 
 -- a segment of the sender's: the place of its first byte, its bytes, and whether FIN stands after them
 pub record Segment : Type 0 where

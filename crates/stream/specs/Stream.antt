@@ -16,11 +16,6 @@ abbrev pub pieceAt : Place → Text → Piece
 pieceAt (At i) bs = record { at = i; bytes = bs }
 pieceAt (Below n) bs = record { at = 0; bytes = drop n bs }
 
--- the place after n bytes from a place on, unless it lies below 0
-abbrev pub placeAfter : Place → ℕ → Option ℕ
-placeAfter (At i) n = Some (i + n)
-placeAfter (Below m) n = cond (leb m n) (Some (n - m)) None
-
 -- low: the highest place that the receiver has acknowledged, never above the end of the text;
 -- known: the byte first seen at each place; text: the bytes known without a gap from place 0 on, all of them looked at;
 -- fin: the place of the known FIN; shut: a word came, and nothing more is passed on

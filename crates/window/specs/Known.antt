@@ -1,8 +1,8 @@
 -- Bytes at the places of a stream, which come in pieces, in any order and not always alike. Assumes nothing.
 use mathlib.Core.Bool.{Bool, true, cond, _&&_, not}
 use mathlib.Core.List.{List, [], _∷_}
-use Prim.Native.Nat.{ℕ, zero, suc, _+_, _-_, max}
-use lib.Dec.{leb}
+use Prim.Native.Nat.{ℕ, zero, suc, _+_, _-_, _<_, _≤_, max}
+use lib.Dec.{leb, ltb}
 use lib.ListN.{take, drop}
 use Rattle.std.specs.Finite.{nth}
 use Rattle.std.specs.Options.{isSome}
@@ -17,6 +17,18 @@ Known = ℕ → Option ℕ
 pub record Piece : Type 0 where
   pub at : ℕ
   pub bytes : List ℕ
+
+abbrev pub piece : ℕ → List ℕ → Piece
+piece i bs = record { at = i; bytes = bs }
+
+-- is a place one of the n places from i on
+abbrev pub inside : ℕ → ℕ → ℕ → Bool
+inside i n j = leb i j && ltb j (i + n)
+
+-- the n places from i on, if there are any, lie in the window of some width from low on
+pub record Within (low width i n : ℕ) : Type 0 where
+  pub above : 0 < n → low ≤ i
+  pub below : 0 < n → i + n ≤ low + width
 
 -- the byte that a piece has at a place
 abbrev pub byteOf : Piece → Known

@@ -17,8 +17,10 @@ scan-requires c κs =
     })
 
 pub returns : need.returns
-returns c ws t h e =
-    rw (c .deref .ensures .value, c .deref-2 .ensures .value) at (c .scan .ensures) ws t h (elim (c .if-from-len .came) [
-      | then-from-len w ↦ w .start-is ∙ e
-      | else-from-len w ↦ absurd (omega (arith, state-in ws _ _ (c .args .state) t h e, w .if-from-len .left, c .from .ensures, c .len .ensures, c .args .self .now .tells .ok .0))
-    ])
+returns c = record {
+  among = c .scan .ensures .among;
+  finds = λ ws t h e. rw (c .deref .ensures .value, c .deref-2 .ensures .value) at (c .scan .ensures .finds) ws t h (elim (c .if-from-len .came) [
+    | then-from-len w ↦ w .start-is ∙ e
+    | else-from-len w ↦ absurd (omega (arith, state-in ws _ _ (c .args .state) t h e, w .if-from-len .left, c .from .ensures, c .len .ensures, c .args .self .now .tells .ok .0))
+  ]);
+}
