@@ -12,7 +12,8 @@ use Rattle.std.specs.Changed.{refilled}
 use Rattle.std.specs.Transfers.{Filled}
 use Rattle.std.proofs.shelf.Lists.{length-drop, length-take-le, refilled-is}
 use Rattle.packet.specs.Bytes.{Bytes}
-use Rattle.frames.specs.Items.{Event, comes, ReadEvent, ReadsItem, Placed, eventOf, item}
+use Rattle.filter.specs.Verdict.{Comes}
+use Rattle.frames.specs.Items.{ReadsItem, Placed, eventOf, item, modelSide}
 use Rattle.frames.specs.Buffer.{Inside, pending, placed}
 use Rattle.frames.specs.Configs.{ReadsConfig, configuration, settingsOf}
 use Rattle.frames.specs.declared.config.Config.{Config}
@@ -38,7 +39,7 @@ module _ (xs : Bytes) (a e : ℕ) (forward : a ≤ e) (within : e ≤ length xs)
       let p = r .1 in
       let q : take ((a + end) - (a + start)) (drop (a + start) xs) ≡ take (end - start) (drop start (take (e - a) (drop a xs))) = part-part xs a e forward within start end (p .2) (omega (arith, r .3, p .1)) in
       record {
-        reads = r .0 ∙ ap (λ (t : Bytes). Ok (record { event = comes side t; taken = n })) (sym q);
+        reads = r .0 ∙ ap (λ (t : Bytes). Ok (record { event = Comes (modelSide side) t; taken = n })) (sym q);
         placed = (omega (arith, p .0), omega (arith, p .1), omega (arith, p .2));
         inside = (omega (arith, p .2), omega (arith, r .3, p .1));
         some = r .2;

@@ -1,19 +1,18 @@
 -- The configuration, the first item of the gate's input, as bytes. Assumes nothing.
 use mathlib.Core.Path.{_≡_}
-use mathlib.Core.List.{List}
-use Prim.Native.Nat.{ℕ, _+_, _≤_}
+use Prim.Native.Nat.{ℕ, _+_, _≤_, _^_}
 use lib.ListN.{length, drop}
 use Rattle.std.specs.declared.result.Result.{Result}
 use Rattle.std.specs.declared.result.Result.the-variants.{Ok, Err}
 use Rattle.automaton.specs.Lists.{ReadList, wordList}
 use Rattle.automaton.specs.ReadList.{texts}
-use Rattle.automaton.specs.Text.{Text}
 use Rattle.automaton.specs.declared.fault.ListError.{ListError}
 use Rattle.automaton.specs.declared.fault.ListError.the-variants as listing
 use Rattle.automaton.specs.declared.fault.ListFault.{ListFault}
 use Rattle.automaton.specs.declared.fault.ListRefusal.{ListRefusal}
 use Rattle.automaton.specs.declared.fault.ListRefusal.the-variants as list
 use Rattle.packet.specs.Bytes.{Bytes}
+use Rattle.filter.specs.Config.{Config as Settings}
 use Rattle.frames.specs.Items.{header}
 use Rattle.frames.specs.declared.config.Config.{Config}
 use Rattle.frames.specs.declared.fault.ConfigError.{ConfigError}
@@ -21,12 +20,6 @@ use Rattle.frames.specs.declared.fault.ConfigError.the-variants.{Memory, Refus
 use Rattle.frames.specs.declared.fault.Fault.{Fault}
 use Rattle.frames.specs.declared.fault.Refusal.{Refusal}
 use Rattle.frames.specs.declared.fault.Refusal.the-variants.{Cut, Bad, TooMuch, Twice}
-
--- the window's width as its power of two, the ticks of quiet, the forbidden words
-pub record Settings : Type 0 where
-  pub power : ℕ
-  pub quiet : ℕ
-  pub words : List Text
 
 -- settings that were read, and how many bytes they took
 pub record ReadSettings : Type 0 where
@@ -52,7 +45,7 @@ OnFault listing.Memory P = Unit {0}
 OnFault (listing.Fault f) P = P f
 
 abbrev pub withList : ℕ × ℕ → Result ReadList ListFault → Result ReadSettings Fault
-withList h (Ok r) = Ok (record { settings = record { power = h .0; quiet = h .1; words = r .words }; taken = 6 + r .taken })
+withList h (Ok r) = Ok (record { settings = record { width = 2 ^ h .0; quiet = h .1; words = r .words }; taken = 6 + r .taken })
 withList h (Err f) = Err (faultOf f)
 
 abbrev pub withHeader : Result (ℕ × ℕ) Refusal → Result ReadList ListFault → Result ReadSettings Fault
@@ -64,7 +57,7 @@ abbrev pub configuration : Bytes → Result ReadSettings Fault
 configuration bs = withHeader (header bs) (wordList (drop 6 bs))
 
 abbrev pub settingsOf : Config → Settings
-settingsOf c = record { power = c .power; quiet = c .quiet; words = texts (c .words) }
+settingsOf c = record { width = 2 ^ c .power; quiet = c .quiet; words = texts (c .words) }
 
 -- an answer is what `configuration` gives, unless memory was wanting
 abbrev pub ReadsConfig : Bytes → Result (Config × ℕ) ConfigError → Type 0

@@ -8,8 +8,12 @@ use lib.ListN.{length, take, drop}
 use Rattle.std.specs.declared.result.Result.{Result}
 use Rattle.std.specs.declared.result.Result.the-variants.{Ok, Err}
 use Rattle.packet.specs.Bytes.{Bytes, byte, read16, read32}
+use Rattle.filter.specs.Config.{Outside, Looms}
+use Rattle.filter.specs.Config as model
+use Rattle.filter.specs.Verdict.{Event, Comes}
+use Rattle.filter.specs.Verdict as event
 use Rattle.filter.specs.declared.side.Side.{Side}
-use Rattle.filter.specs.declared.side.Side.the-variants.{Outside, Looms}
+use Rattle.filter.specs.declared.side.Side.the-variants as side
 use Rattle.frames.specs.declared.fault.Refusal.{Refusal}
 use Rattle.frames.specs.declared.fault.Refusal.the-variants.{Cut, Bad, TooMuch, Twice}
 use Rattle.frames.specs.declared.item.Item.{Item}
@@ -22,19 +26,18 @@ refusalNumber Bad = 1
 refusalNumber TooMuch = 11
 refusalNumber Twice = 12
 
--- a packet comes from a side, or ticks pass
-pub data Event : Type 0 where
-  comes : Side → Bytes → Event
-  passes : ℕ → Event
-
 -- an event that was read, and how many bytes it took
 pub record ReadEvent : Type 0 where
   pub event : Event
   pub taken : ℕ
 
-abbrev pub sideOf : ℕ → Side
+abbrev pub sideOf : ℕ → model.Side
 sideOf zero = Outside
 sideOf (suc n) = Looms
+
+abbrev pub modelSide : Side → model.Side
+modelSide side.Outside = Outside
+modelSide side.Looms = Looms
 
 -- 1, side, length (2 bytes), packet
 unfoldable pub packetItem : Bytes → Result ReadEvent Refusal
@@ -42,11 +45,11 @@ packetItem bs =
     cond (leb (length bs) 1) (Err Cut)
     (cond (ltb 1 (byte 1 bs)) (Err Bad)
     (cond (ltb (length bs) (4 + read16 2 bs)) (Err Cut)
-    (Ok (record { event = comes (sideOf (byte 1 bs)) (take (read16 2 bs) (drop 4 bs)); taken = 4 + read16 2 bs }))))
+    (Ok (record { event = Comes (sideOf (byte 1 bs)) (take (read16 2 bs) (drop 4 bs)); taken = 4 + read16 2 bs }))))
 
 -- 2, how many (4 bytes)
 unfoldable pub ticksItem : Bytes → Result ReadEvent Refusal
-ticksItem bs = cond (ltb (length bs) 5) (Err Cut) (Ok (record { event = passes (read32 1 bs); taken = 5 }))
+ticksItem bs = cond (ltb (length bs) 5) (Err Cut) (Ok (record { event = event.Ticks (read32 1 bs); taken = 5 }))
 
 -- what stands at the front of some bytes behind the configuration
 unfoldable pub item : Bytes → Result ReadEvent Refusal
@@ -57,8 +60,8 @@ item bs =
 
 -- the event that an item stands for, in the bytes that hold it
 abbrev pub eventOf : Bytes → Item → Event
-eventOf bs (Packet side start end) = comes side (take (end - start) (drop start bs))
-eventOf bs (Ticks n) = passes n
+eventOf bs (Packet side start end) = Comes (modelSide side) (take (end - start) (drop start bs))
+eventOf bs (Ticks n) = event.Ticks n
 
 -- where the bytes of an item of n bytes stand that begins at `from`
 abbrev pub Placed : ℕ → ℕ → Item → Type 0

@@ -14,8 +14,6 @@ use automaton::ListError;
 use automaton::ListRefusal;
 use automaton::WordList;
 use filter::Side;
-use packet::bytes::get16;
-use packet::bytes::get32;
 use std::alloc::Global;
 
 const HEADER: usize = 6;
@@ -46,10 +44,10 @@ fn read_packet(bytes: &[u8]) -> Result<(Item, usize), Refusal>
         1 => Side::Looms,
         _ => return Err(Refusal::Bad),
     };
-    if bytes.len() < 4 {
+    let [_, _, high, low, ..] = bytes else {
         return Err(Refusal::Cut);
-    }
-    let end = 4 + usize::from(get16(bytes, 2));
+    };
+    let end = 4 + usize::from(u16::from_be_bytes([*high, *low]));
     if end > bytes.len() {
         return Err(Refusal::Cut);
     }
@@ -67,10 +65,10 @@ fn read_packet(bytes: &[u8]) -> Result<(Item, usize), Refusal>
 fn read_ticks(bytes: &[u8]) -> Result<(Item, usize), Refusal>
     ensures { λ r. ⌜ ReadsItem ticksItem (now (bytes .entry)) r ⌝ }
 {
-    if bytes.len() < 5 {
+    let [_, a, b, c, d, ..] = bytes else {
         return Err(Refusal::Cut);
-    }
-    Ok((Item::Ticks(get32(bytes, 1)), 5))
+    };
+    Ok((Item::Ticks(u32::from_be_bytes([*a, *b, *c, *d])), 5))
 }
 
 impl Item {
@@ -106,10 +104,10 @@ fn read_header(bytes: &[u8]) -> Result<(u8, u32), Refusal>
     if *power < 10 || *power > 16 {
         return Err(Refusal::Bad);
     }
-    if bytes.len() < HEADER {
+    let [_, _, a, b, c, d, ..] = bytes else {
         return Err(Refusal::Cut);
-    }
-    Ok((*power, get32(bytes, 2)))
+    };
+    Ok((*power, u32::from_be_bytes([*a, *b, *c, *d])))
 }
 
 // Why a word list that stands behind the header is refused.
