@@ -208,7 +208,7 @@ module _ (c : Config) (m : Connection) (v : Value) (h : Held c m v) where
   width-is : width (v .stream .window) ≡ c .width
   width-is = h .wide
 
-  shown : Shown (c .words) (m .stream) (v .stream)
+  pub shown : Shown (c .words) (m .stream) (v .stream)
   shown = subst (λ (t : Stream). Shown (c .words) t (v .stream)) (ap (λ w. run w (c .words) blank (h .before)) (h .wide) ∙ sym (h .history)) (h .stands)
 
   sound : nonempty (c .words) ≡ true → Sound (c .width) (c .words) (m .stream)

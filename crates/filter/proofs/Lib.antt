@@ -10,3 +10,4 @@ pub mod Keys
 pub mod Passes
 pub mod Runs
 pub mod Sent
+pub mod AcknowledgeLaws

@@ -1,17 +1,20 @@
 -- What the gate's values stand for. Assumes nothing.
 use mathlib.Core.Path.{_≡_}
+use mathlib.Core.Bool.{Bool, false}
 use mathlib.Core.List.{List, []}
 use Prim.Native.Nat.{ℕ, _≤_}
+use lib.Dec.{ltb}
 use lib.ListN.{length, getD, take, drop}
 use Rattle.std.specs.shelf.Lists.{between}
 use Rattle.packet.specs.Bytes.{Bytes}
 use Rattle.packet.specs.Packet.{Packet}
+use Rattle.sequence.specs.Places.{At, Below, Place}
 use Rattle.window.specs.Window.{width}
 use Rattle.stream.specs.Shown.{Stands}
 use Rattle.stream.specs.Steps.{Arrival, run}
 use Rattle.stream.specs.Stream.{blank}
-use Rattle.filter.specs.Config.{Config, Key, Looms}
-use Rattle.filter.specs.Decide.{onSegment, resetToLoom, resetToSender}
+use Rattle.filter.specs.Config.{Config, Key, Looms, Outside}
+use Rattle.filter.specs.Decide.{acknowledges, onSegment, resetToLoom, resetToSender}
 use Rattle.filter.specs.Gate.{Connection, closed}
 use Rattle.filter.specs.Verdict.{Refuse, Shut, Update}
 use Rattle.filter.specs.declared.connection.Connection.{Connection as Value}
@@ -54,3 +57,12 @@ abbrev pub Left : Bytes → Bytes → Verdict → Type 0
 Left came bytes (verdict.Pass start end) = (start ≤ end) × (end ≤ length came) × (take start bytes ≡ take start came) × (drop end bytes ≡ drop end came)
 Left came bytes (verdict.Drop why) = bytes ≡ came
 Left came bytes (verdict.Word place w) = bytes ≡ came
+
+-- is a place above a limit
+abbrev pub above : Place → ℕ → Bool
+above (At i) limit = ltb limit i
+above (Below n) limit = false
+
+-- a packet of the loom's that acknowledges is handled as decided
+abbrev pub Acknowledges : Config → Key → Connection → Packet → Bytes → Value → ℕ → ℕ → Type 0
+Acknowledges c k m p bytes v start end = (m′ : Connection) × (acknowledges c k m p ≡ Update k m′ Outside (between start end bytes)) × Held c m′ v

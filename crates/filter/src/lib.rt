@@ -1,4 +1,5 @@
 // The gate.
+mod acknowledge;
 mod connection;
 mod forward;
 pub mod laws;
