@@ -17,6 +17,7 @@ use Rattle.automaton.specs.Look.{Found}
 use Rattle.packet.specs.Bytes.{Bytes}
 use Rattle.packet.specs.Packet.{Packet, packet, read, rewrite}
 use Rattle.packet.specs.Laws.{Sent, asCame, rewritten}
+use Rattle.packet.proofs.HeaderLaws.{rewrite-keeps}
 use Rattle.packet.proofs.ReadLaws.{read-is, read-refuses}
 use Rattle.packet.proofs.WriteLaws.{sent-right}
 use Rattle.sequence.specs.Places.{Place, Below, At}
@@ -151,7 +152,7 @@ module _ (p : Bytes) (reads : read p ≡ Ok (packet p)) (k : Key) where
 -- A packet goes out to the other side
 
 pub as-came : (side : Side) (p : Bytes) → Crosses side p (opposite side) p
-as-came side p = record { across = refl; source = refl; sourcePort = refl; destination = refl; destinationPort = refl; keeps = own side }
+as-came side p = record { across = refl; source = refl; sourcePort = refl; destination = refl; destinationPort = refl; header = λ j u. refl; keeps = own side }
   where
     own : (side : Side) → KeepsOwn side p p
     own Outside = (refl, inl refl, λ _ _. refl)
@@ -168,6 +169,7 @@ module _ (p : Bytes) (reads : read p ≡ Ok (packet p)) where
         sourcePort = r .sourcePort;
         destination = r .destination;
         destinationPort = r .destinationPort;
+        header = rewrite-keeps p reads _ _ _ t;
         keeps = (
           omega (arith, r .acknowledged),
           marks fin (r .marks),
@@ -195,6 +197,7 @@ module _ (p : Bytes) (reads : read p ≡ Ok (packet p)) where
         sourcePort = r .sourcePort;
         destination = r .destination;
         destinationPort = r .destinationPort;
+        header = rewrite-keeps p reads _ _ _ t;
         keeps = (omega (arith, r .number), r .marks, ⊎-elim (λ e. inl (r .payload ∙ e)) inr own);
       }
 

@@ -13,6 +13,7 @@ use Rattle.automaton.specs.Text.{Text, nonempty}
 use Rattle.automaton.specs.Look.{Found}
 use Rattle.packet.specs.Bytes.{Bytes}
 use Rattle.packet.specs.Packet.{Packet, packet, read}
+use Rattle.packet.specs.Header.{HeaderKept}
 use Rattle.packet.specs.Laws.{Fresh, IsReset}
 use Rattle.sequence.specs.Places.{Below, At, numberOf}
 use Rattle.window.specs.Known.{Piece}
@@ -241,13 +242,14 @@ KeepsOwn Looms p out =
     (packet out .number % 4294967296 ≡ packet p .number % 4294967296) × (packet out .marks ≡ packet p .marks) ×
     ((packet out .payload ≡ packet p .payload) ⊎ (packet p .rst ≡ true))
 
--- a packet goes out to the other side than it came from, from the same end of the stream to the other
+-- a packet goes out to the other side than it came from, from the same end of the stream to the other, with its other header fields and options as they came
 pub record Crosses (side : Side) (p : Bytes) (to : Side) (out : Bytes) : Type 0 where
   pub across : to ≡ opposite side
   pub source : packet out .source ≡ packet p .source
   pub sourcePort : packet out .sourcePort ≡ packet p .sourcePort
   pub destination : packet out .destination ≡ packet p .destination
   pub destinationPort : packet out .destinationPort ≡ packet p .destinationPort
+  pub header : HeaderKept p out
   pub keeps : KeepsOwn side p out
 
 -- for ticks nothing goes out

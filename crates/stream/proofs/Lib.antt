@@ -1,3 +1,4 @@
+pub mod Cases
 pub mod Honest
 pub mod Kept
 pub mod Machines

@@ -1,3 +1,4 @@
+pub mod Cases
 pub mod Looked
 pub mod Machine
 pub mod Marks

@@ -1,4 +1,5 @@
 // What is promised of one direction of a stream.
+ghost use Rattle.stream.specs.Cases.{Cases};
 ghost use Rattle.stream.specs.Machine.{MachinesGive};
 ghost use Rattle.stream.specs.Promise.{Promise};
 
@@ -12,6 +13,13 @@ pub fn machines_give() -> u8
 // Whatever comes to a stream: one byte for each place, no word in the text, nothing lost of what an honest sender says.
 pub fn stream_kept() -> u8
     ensures { λ _. ⌜ Promise ⌝ }
+{
+    0
+}
+
+// The worked cases of streams, states and places.
+pub fn worked_cases() -> u8
+    ensures { λ _. ⌜ Cases ⌝ }
 {
     0
 }
