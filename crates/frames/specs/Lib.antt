@@ -1,3 +1,4 @@
 pub mod Items
 pub mod Configs
 pub mod Buffer
+pub mod Whole

@@ -4,6 +4,7 @@ mod fault;
 mod fill;
 mod input;
 mod item;
+pub mod laws;
 mod read;
 
 pub use config::Config;
