@@ -4,9 +4,11 @@ pub mod Decided
 pub mod Example
 pub mod Few
 pub mod Follows
+pub mod ForwardLaws
 pub mod Handled
 pub mod Kept
 pub mod Keys
 pub mod Passes
 pub mod Runs
 pub mod Sent
+pub mod AcknowledgeLaws

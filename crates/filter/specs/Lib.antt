@@ -4,3 +4,5 @@ pub mod Example
 pub mod Gate
 pub mod Promise
 pub mod Verdict
+pub mod Forwards
+pub mod Held

@@ -142,7 +142,7 @@ fn tell(rt: &LibcRuntime) -> Result<(), AnyError> {
     our_way(rt, &table, &mut stream, &SENT)?;
     println!(
         rt,
-        "And where the word comes backward, its last byte first:"
+        "And where the word comes backward, its last byte first (- is a place that stays empty):"
     )?;
     stream.clear();
     our_way(rt, &table, &mut stream, &BACKWARD)?;

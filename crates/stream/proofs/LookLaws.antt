@@ -16,10 +16,9 @@ use Rattle.automaton.specs.States.{run}
 use Rattle.automaton.specs.Text.{Text}
 use Rattle.automaton.specs.declared.scan.Finding.the-variants.{Clean, Found}
 use Rattle.automaton.proofs.JudgedLaws.{judged-append, judged-on}
-use Rattle.window.specs.Known.{Known, byteOr, learn, onByte, onwards, overlay, piece}
+use Rattle.window.specs.Known.{Known, learn, onByte, onwards, overlay, piece}
 use Rattle.window.specs.Ring.{Front}
-use Rattle.window.proofs.KnownLaws.{inside-above, inside-below, learn-outside, length-overlay, onwards-is, onwards-learn, onwards-none}
-use Rattle.window.proofs.PieceLaws.{onwards-ends}
+use Rattle.window.proofs.KnownLaws.{inside-above, inside-below, learn-outside, length-overlay, onwards-enough, onwards-learn, onwards-none}
 use Rattle.stream.specs.Looked.{LookOf}
 use Rattle.stream.specs.declared.look.Looked.the-variants as looked
 
@@ -59,17 +58,6 @@ module _ (f : Known) (i d : ℕ) (bs rest front : List ℕ) (l : d ≤ length bs
 
 -- The bytes by which the text grows
 
-onwards-at : (n i : ℕ) (f : Known) (k : ℕ) → k < length (onwards n i f) → f (i + k) ≡ Some (getD (onwards n i f) k 0)
-unfolding onwards
-onwards-at zero i f k l = absurd (omega arith)
-onwards-at (suc n) i f k l = go (f i) refl (λ m h. let e : i + suc m ≡ i + 1 + m = omega arith in ap f e ∙ onwards-at n (i + 1) f m h) k l
-  where
-    go : (o : Option ℕ) → f i ≡ o → ((m : ℕ) → m < length (onwards n (i + 1) f) → f (i + suc m) ≡ Some (getD (onwards n (i + 1) f) m 0)) →
-        (k : ℕ) → k < length (onByte (onwards n (i + 1) f) o) → f (i + k) ≡ Some (getD (onByte (onwards n (i + 1) f) o) k 0)
-    go None e h k l = absurd (omega arith)
-    go (Some b) e h zero l = let z : i + 0 ≡ i = omega arith in ap f z ∙ e
-    go (Some b) e h (suc m) l = h m (omega arith)
-
 pub length-onwards : (n i : ℕ) (f : Known) → length (onwards n i f) ≤ n
 unfolding onwards
 length-onwards zero i f = omega arith
@@ -78,12 +66,6 @@ length-onwards (suc n) i f = go (f i) (length-onwards n (i + 1) f)
     go : (o : Option ℕ) → length (onwards n (i + 1) f) ≤ n → length (onByte (onwards n (i + 1) f) o) ≤ suc n
     go None h = omega arith
     go (Some b) h = omega arith
-
--- as many as are known at all are enough
-onwards-enough : (m n i : ℕ) (f : Known) → m ≤ n → ((j : ℕ) → i + m ≤ j → f j ≡ None) → onwards m i f ≡ onwards n i f
-onwards-enough m n i f l none =
-    onwards-is n i f (onwards m i f) (omega (arith, length-onwards m i f)) (onwards-at m i f)
-    (λ h. ⊎-elim (λ e. e) (λ e. none (i + length (onwards m i f)) (omega arith)) (onwards-ends m i f))
 
 module _ (f : Known) (low w end place : ℕ) (bs : List ℕ) (above : low ≤ end) (none : f end ≡ None) (outside : (j : ℕ) → low + w ≤ j → f j ≡ None) where
   pub grown-none : (end < place) ⊎ (place + length bs ≤ end) → onwards w end (learn (piece place bs) f) ≡ []
@@ -98,7 +80,7 @@ module _ (f : Known) (low w end place : ℕ) (bs : List ℕ) (above : low ≤ en
       let d : overlay f end (drop (end - place) bs) ≡ drop (end - place) (overlay f place bs) =
       ap (λ i. overlay f i (drop (end - place) bs)) (sym e) ∙ overlay-drop f place (end - place) bs (omega arith) in
       let k : onwards (w - (place + length bs - end)) (place + length bs) f ≡ onwards w (place + length bs) f =
-      onwards-enough (w - (place + length bs - end)) w (place + length bs) f (omega arith) (λ j l. outside j (omega arith)) in
+      onwards-enough (w - (place + length bs - end)) w (place + length bs) (low + w) f outside (omega arith) (omega arith) in
       ap (λ x. x ++ onwards w (place + length bs) f) d ∙ ap (λ x. drop (end - place) (overlay f place bs) ++ x) (sym k)
       ∙ sym (onwards-learn w place end bs f a (omega arith) (omega arith))
 

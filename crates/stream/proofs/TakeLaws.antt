@@ -32,7 +32,7 @@ use Rattle.stream.specs.Looked.{LookOf}
 use Rattle.stream.specs.Part.{PartOf, finMayStand, keptIf}
 use Rattle.stream.specs.Promise.{Sound}
 use Rattle.stream.specs.Shown.{Shown, Stands, outcomeOf}
-use Rattle.stream.specs.Took.{Differs, Took}
+use Rattle.stream.specs.Took.{Cuts, Differs, Took}
 use Rattle.stream.specs.Steps.{Arrival, Arrives, Closed, Empty, Outcome, Passed, Segment, Word, after, finAt, finLeft, isEmpty, onLook, outcome, pieceLeft, pieceOf, run, step}
 use Rattle.stream.specs.Stream.{Stream, blank, finFits, inner, keptFin, newText, nextKnown, noneElsewhere, passedPart, pieceAt, places, shutDown, taken, upTo, windowEnd}
 use Rattle.stream.specs.declared.look.Looked.{Looked}
@@ -65,7 +65,7 @@ before-end (Below m) bs g j b e h =
 pub closed-outcome : (w : ℕ) (ws : List Text) (s : Stream) (a : Segment) → s .shut ≡ true → outcome w ws s a ≡ Closed
 closed-outcome w ws s a e = cond-true (s .shut) Closed (onLook (pieceLeft w s a) (finLeft w s a) (look ws (s .text) (newText w s (pieceOf a)))) e
 
-run-push : (w : ℕ) (ws : List Text) (s : Stream) (before : List Arrival) (x : Arrival) → run w ws s (before ++ (x ∷ [])) ≡ step w ws (run w ws s before) x
+pub run-push : (w : ℕ) (ws : List Text) (s : Stream) (before : List Arrival) (x : Arrival) → run w ws s (before ++ (x ∷ [])) ≡ step w ws (run w ws s before) x
 unfolding run
 run-push w ws s [] x = refl
 run-push w ws s (y ∷ ys) x = run-push w ws (step w ws s y) ys x
@@ -76,8 +76,10 @@ stands-more ws before x w v′ ew h =
     subst (λ (n : ℕ). Shown ws (run n ws blank (before ++ (x ∷ []))) v′) (sym ew) (subst (λ (t : Stream). Shown ws t v′) (sym (run-push w ws blank before x)) h)
 
 pub took : (ws : List Text) (before : List Arrival) (a : Segment) (w : ℕ) (v′ : Value) (bytes : List ℕ) (r : Taken) → nonempty ws ≡ true → width (v′ .window) ≡ w →
-    outcome w ws (run w ws blank before) a ≡ outcomeOf ws bytes r → Shown ws (after w (run w ws blank before) a (outcomeOf ws bytes r)) v′ → Took ws before a v′ bytes r
-took ws before a w v′ bytes r ne ew eo h = record {
+    outcome w ws (run w ws blank before) a ≡ outcomeOf ws bytes r → Shown ws (after w (run w ws blank before) a (outcomeOf ws bytes r)) v′ → Cuts (inner w (run w ws blank before) (pieceOf a) .bytes) (a .bytes) r →
+    Took ws before a v′ bytes r
+took ws before a w v′ bytes r ne ew eo h cuts = record {
+  cuts = subst (λ (n : ℕ). Cuts (inner n (run n ws blank before) (pieceOf a) .bytes) (a .bytes) r) (sym ew) cuts;
   stands = stands-more ws before (Arrives a) w v′ ew (subst (λ (o : Outcome). Shown ws (after w (run w ws blank before) a o) v′) (sym eo) h);
   answer = subst (λ (n : ℕ). outcome n ws (run n ws blank before) a ≡ outcomeOf ws bytes r) (sym ew) eo;
   kept = promise (width (v′ .window)) ws ne (before ++ (Arrives a ∷ []));
@@ -107,6 +109,9 @@ module _ (ws : List Text) (s : Stream) (v : Value) (a : Segment) (r : Part) (h :
   inside =
       pa .is (a .bytes) refl ∙ ap (λ l. cut l (upTo (v .marks .fin) (min (l + W) places)) (pieceOf a)) (h .window)
       ∙ ap (λ o. cut (s .low) (upTo o (windowEnd W s)) (pieceOf a)) (h .fin)
+
+  pub part-inside : part ≡ inner W s (pieceOf a) .bytes
+  part-inside = ap (λ p. p .bytes) inside
 
   long : length part ≡ r .end - r .start
   long = length-between (a .bytes) (r .start) (r .end) (pa .ends)
@@ -143,7 +148,7 @@ module _ (ws : List Text) (s : Stream) (v : Value) (a : Segment) (r : Part) (h :
   pub differs : (b : Bool) → When b (overlay (knows (v .window)) (r .place) part ≡ part → ⊥) (overlay (knows (v .window)) (r .place) part ≡ part) → Differs W s (pieceOf a) b
   differs b d =
       subst (λ (x : List ℕ). When b (x ≡ inner W s (pieceOf a) .bytes → ⊥) (x ≡ inner W s (pieceOf a) .bytes)) passes
-      (subst (λ (y : List ℕ). When b (overlay (knows (v .window)) (r .place) part ≡ y → ⊥) (overlay (knows (v .window)) (r .place) part ≡ y)) (ap (λ p. p .bytes) inside) d)
+      (subst (λ (y : List ℕ). When b (overlay (knows (v .window)) (r .place) part ≡ y → ⊥) (overlay (knows (v .window)) (r .place) part ≡ y)) part-inside d)
 
   -- A FIN is kept by the code as by the model
 

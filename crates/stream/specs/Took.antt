@@ -5,6 +5,7 @@ use mathlib.Core.List.{List, [], _∷_, _++_}
 use mathlib.Core.Logic.{_⊎_}
 use Prim.Native.Nat.{ℕ, _^_, _<_, _≤_}
 use Rattle.std.specs.Orderings.{When}
+use Rattle.std.specs.shelf.Lists.{between}
 use Rattle.std.specs.declared.result.Result.{Result}
 use Rattle.std.specs.declared.result.Result.the-variants.{Ok, Err}
 use Rattle.automaton.specs.Text.{Text}
@@ -13,16 +14,25 @@ use Rattle.window.specs.Window.{width}
 use Rattle.window.specs.declared.error.WindowError.{WindowError}
 use Rattle.window.specs.declared.error.WindowError.the-variants.{BadPower, NoMemory}
 use Rattle.stream.specs.Stream.{Stream, blank, inner, passedPart}
-use Rattle.stream.specs.Steps.{Arrival, Arrives, Segment, outcome, run}
+use Rattle.stream.specs.Steps.{Arrival, Arrives, Segment, outcome, pieceOf, run}
 use Rattle.stream.specs.Promise.{Kept}
 use Rattle.stream.specs.Shown.{Stands, outcomeOf}
 use Rattle.stream.specs.declared.stream.Stream.{Stream as Value}
 use Rattle.stream.specs.declared.taken.Taken.{Taken}
+use Rattle.stream.specs.declared.taken.Taken.the-variants as taken
+
+-- the part that goes on is cut from the bytes that came
+abbrev pub Cuts : Text → Text → Taken → Type 0
+Cuts inside came (taken.Passed start end place fin) = between start end came ≡ inside
+Cuts inside came taken.Empty = Unit {0}
+Cuts inside came (taken.Word place word) = Unit {0}
+Cuts inside came taken.Closed = Unit {0}
 
 -- after all that came before, the segment has come too; the answer is the outcome; and the promise for one stream holds of it all
 pub record Took (ws : List Text) (before : List Arrival) (a : Segment) (v : Value) (bytes : List ℕ) (r : Taken) : Type 0 where
   pub stands : Stands ws (before ++ (Arrives a ∷ [])) v
   pub answer : outcome (width (v .window)) ws (run (width (v .window)) ws blank before) a ≡ outcomeOf ws bytes r
+  pub cuts : Cuts (inner (width (v .window)) (run (width (v .window)) ws blank before) (pieceOf a) .bytes) (a .bytes) r
   pub kept : Kept (width (v .window)) ws (before ++ (Arrives a ∷ []))
 
 -- after all this has come, the value stands for it, and the promise holds of it

@@ -72,9 +72,10 @@ impl Marks {
         }
     }
 
-    // Up to where the receiver may acknowledge: the end of the text, and one more where the known FIN stands there.
+    // Up to where the receiver may acknowledge: the end of the text, and one more where the known FIN stands there, if that fits.
     pub fn ack_limit(self) -> u64
-        ensures { λ r. ⌜ (self .end < 18446744073709551615 → r ≡ limitOf (self .end) (self .fin)) ⌝ }
+        ensures limit { λ r. ⌜ (self .end < 18446744073709551615 → r ≡ limitOf (self .end) (self .fin)) ⌝ }
+        ensures most { λ r. ⌜ (self .end ≡ 18446744073709551615 → r ≡ 18446744073709551615) ⌝ }
     {
         match self.fin {
             Some(f) if f == self.end => self.end.saturating_add(1),

@@ -22,7 +22,7 @@ use Rattle.stream.specs.declared.stream.Stream.{Stream as Value}
 use Rattle.stream.specs.declared.taken.Taken.the-variants.{Closed, Empty, Passed, Word}
 use Rattle.stream.specs.declared.look.Looked.the-variants as looked
 use Rattle.stream.proofs.Kept.{promise}
-use Rattle.stream.proofs.TakeLaws.{closed-outcome, empty-outcome, fin-kept, fin-none, looks, passed-outcome, passed-shown, shut-shown, text-ends, text-low, took, word-outcome}
+use Rattle.stream.proofs.TakeLaws.{closed-outcome, empty-outcome, fin-kept, fin-none, looks, part-inside, passed-outcome, passed-shown, shut-shown, text-ends, text-low, took, word-outcome}
 use Rattle.stream.proofs.stream.Stream.take.Needs as need
 use Rattle.stream.proofs.stream.Stream.take.Needs.{then-fin, else-fin, else-start-end·by·then-start-end·else-is-none, else-start-end·by·else-start-end}
 
@@ -34,7 +34,7 @@ returns-then-self c = record {
       let v = c .args .self .now in
       let a : Segment = record { at = modelOf (c .args .at); bytes = c .args .payload .now; fin = c .args .fin } in
       took ws before a (width (v .window)) v (c .args .payload .now) Closed ne refl
-      (closed-outcome (width (v .window)) ws (run (width (v .window)) ws blank before) a (sym (st .shut) ∙ c .if-self .taken)) st;
+      (closed-outcome (width (v .window)) ws (run (width (v .window)) ws blank before) a (sym (st .shut) ∙ c .if-self .taken)) st tt;
 }
 
 pub returns-then-is-none : need.returns-then-is-none
@@ -57,7 +57,7 @@ returns-then-is-none c = record {
       ] in
       took ws before a (width (v .window)) v (c .args .payload .now) Empty ne refl
       (empty-outcome ws s v a r st so pa (sym (st .shut) ∙ c .if-self .left) (c .in-Clean .text-end) (c .in-Clean .state) l (c .if-fin .kept′) ek
-      (c .if-start-end .taken) (c .if-is-none .ensures tt)) st;
+      (c .if-start-end .taken) (c .if-is-none .ensures tt)) st tt;
 }
 
 pub returns-in-Word : need.returns-in-Word
@@ -74,7 +74,7 @@ returns-in-Word c = record {
       let l = looks ws s v a r st so pa (looked.Word (c .in-Word .place) (c .in-Word .word)) (c .in-Word .ensures tt ws (s .text) tb (st .state) (st .end) (text-low ws s v a r st so pa) (text-ends ws s v a r st so pa)) in
       took ws before a (width (v .window)) (record { window = v .window; marks = c .shut-down-self .result }) (c .args .payload .now) (Word (c .in-Word .place) (c .in-Word .word)) ne refl
       (word-outcome ws s v a r st so pa (sym (st .shut) ∙ c .if-self .left) (c .in-Word .place) (c .in-Word .word) l)
-      (shut-shown ws s v a r st so pa (record { window = v .window; marks = c .shut-down-self .result }) refl (c .shut-down-self .ensures));
+      (shut-shown ws s v a r st so pa (record { window = v .window; marks = c .shut-down-self .result }) refl (c .shut-down-self .ensures)) tt;
 }
 
 pub returns-else-start-end : need.returns-else-start-end
@@ -115,5 +115,6 @@ returns-else-start-end c =
           took ws before a (width (v .window)) v′ bytes (Passed (r .start) (r .end) (r .place) (c .if-fin .kept′)) ne (c .write .ensures .width)
           (passed-outcome ws s v a r st so pa isOpen (c .in-Clean .text-end) (c .in-Clean .state) l (c .if-fin .kept′) ek (between (r .start) (r .end) bytes)
           (between-putMid (r .start) (r .end - r .start) payload (c .write .last .part) (r .end) (omega (arith, pa .ordered, pa .ends)) n ∙ c .write .ensures .part) some)
-          (passed-shown ws s v a r st so pa isOpen (c .in-Clean .text-end) (c .in-Clean .state) l (c .if-fin .kept′) ek v′ (c .grown-self .ensures) (c .write .ensures .low) (c .write .ensures .width) (c .write .ensures .known));
+          (passed-shown ws s v a r st so pa isOpen (c .in-Clean .text-end) (c .in-Clean .state) l (c .if-fin .kept′) ek v′ (c .grown-self .ensures) (c .write .ensures .low) (c .write .ensures .width) (c .write .ensures .known))
+          (part-inside ws s v a r st so pa);
     }

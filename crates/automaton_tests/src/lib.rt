@@ -1,0 +1,3 @@
+// Tests of `automaton`: word lists, tables and looks.
+#[cfg(test)]
+mod tests;

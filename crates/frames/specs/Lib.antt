@@ -1,0 +1,4 @@
+pub mod Items
+pub mod Configs
+pub mod Buffer
+pub mod Whole
