@@ -18,7 +18,7 @@ use Rattle.filter.specs.Gate.{Connection, begun, Gate, among, put}
 use Rattle.filter.specs.Verdict.{Event, Comes, Verdict, apply, answerOf, refusalOf}
 use Rattle.filter.specs.Decide.{next, verdict}
 use Rattle.filter.specs.Promise.{beginsBy, Goes, OfStream, segmentOf, segmentRead, arrival, arrives, ackOf, Counts}
-use Rattle.filter.proofs.Keys.{same-key, put-same, put-cases, remove-gone}
+use Rattle.filter.proofs.Keys.{same-key, held-same, put-same, put-cases, remove-gone}
 use Rattle.filter.proofs.Decided
 use Rattle.filter.proofs.Decided.{Decided, decided, senderOf, loomOf}
 
@@ -35,19 +35,16 @@ module _ (c : Config) (g : Gate) (k : Key) where
   put-left : (l : Key) (s : Connection) → sameKey k l ≡ true → put l s g .connection k .left ≡ s .left
   put-left l s e = ap (λ (t : Connection). t .left) (cond-true (sameKey k l) s (g .connection k) e)
 
-  still-held : (l : Key) → sameKey k l ≡ true → among k (g .keys) ≡ true → among l (g .keys) ≡ true
-  still-held l e h = subst (λ (x : Key). among x (g .keys) ≡ true) (same-key k l e) h
-
   active : (e : Event) (v : Verdict) → Decided c g e v → among k (g .keys) ≡ true → among k (apply v g .keys) ≡ true → OfStream k e → refusalOf (answerOf v) ≡ None →
       apply v g .connection k .left ≡ c .quiet
   active _ _ (Decided.refuses side p n l why) h u o q = absurd (some-none q)
   active _ _ (Decided.elapses n) h u o q = absurd o
-  active _ _ (Decided.opening p r new n m alone) h u o q = absurd (both-ways _ new (still-held (senderOf p) o h))
+  active _ _ (Decided.opening p r new n m alone) h u o q = absurd (both-ways _ new (held-same k (senderOf p) (g .keys) o h))
   active _ _ (Decided.bare p out r w n t x m) h u o q = put-left (senderOf p) _ o
   active _ _ (Decided.takes p w is) h u o q = put-left (senderOf p) _ o
   active _ _ (Decided.acksOnly p w is m) h u o q = put-left (senderOf p) _ o
   active _ _ (Decided.shuts p w found is) h u o q = absurd (some-none q)
-  active _ _ (Decided.replies p out r new n t x) h u o q = absurd (both-ways _ new (still-held (loomOf p) o h))
+  active _ _ (Decided.replies p out r new n t x) h u o q = absurd (both-ways _ new (held-same k (loomOf p) (g .keys) o h))
   active _ _ (Decided.again p r w n) h u o q = put-left (loomOf p) _ o
   active _ _ (Decided.acks p r w own t x) h u o q = put-left (loomOf p) _ o
   active _ _ (Decided.begins p w n) h u o q = put-left (loomOf p) _ o

@@ -24,7 +24,7 @@ use Rattle.sequence.specs.Places.{Place, Below, At}
 use Rattle.window.proofs.PieceLaws.{none-some}
 use Rattle.stream.specs.Stream.{Stream, taken, ackLimit, acknowledgedTo}
 use Rattle.stream.specs.Steps.{Arrives, Segment, pieceOf, pieceLeft, finLeft, Outcome, Passed, Empty, Word, isEmpty, outcome}
-use Rattle.stream.proofs.Outcomes.{Done, done}
+use Rattle.stream.proofs.Outcomes.{Done, done, nil-since}
 use Rattle.stream.proofs.Outcomes as outcomes
 use Rattle.filter.specs.Config.{Config, Side, Outside, Looms, opposite, Key, sameKey, keyFrom}
 use Rattle.filter.specs.Gate.{Connection, begun, active, closed, Gate, among, full}
@@ -215,10 +215,6 @@ module _ (c : Config) (g : Gate) (p : Bytes) (reads : read p ≡ Ok (packet p)) 
   empty-bare s =
       let r = sent-right .fields p reads (packet p .number) (packet p .acknowledged) (withoutFin (packet p .marks)) [] in
       record { payload = r .payload; fin = ap (λ m. eqb (m % 2) 1) (r .marks) ∙ no-fin (packet p .marks) }
-
-  nil-since : (t : Bytes) → isEmpty t ≡ true → t ≡ []
-  nil-since [] e = refl
-  nil-since (b ∷ bs) e = absurd (both-ways _ refl e)
 
   abbrev FromSender : Verdict → Type 0
   FromSender = Decided c g (Comes Outside p)

@@ -26,7 +26,7 @@ use Rattle.filter.specs.Gate.{Connection, begun, aged, closed, Gate, among, on
 use Rattle.filter.specs.Verdict.{Event, Comes, Ticks, Verdict, Refuse, Forward, Update, Begin, End, Shut, Elapse, apply, answerOf, refusalOf, outOf}
 use Rattle.filter.specs.Decide.{resetToLoom, resetToSender, synAlone, fromOutside, sameBeginning, fromLoom, opensWithBytes, onRead, answer, verdict}
 use Rattle.filter.specs.Promise.{streamOf, segmentOf, beginsBy, Begins, Beginning, Ending, byReset, byQuiet, Short, AsCame, OfStream, OfOther, CrossesBy, NothingElse, ShutForWord, Handled}
-use Rattle.filter.proofs.Keys.{same-key, put-keeps, put-found, put-other, among-only, only-gone, remove-gone, remove-other}
+use Rattle.filter.proofs.Keys.{same-key, held-same, put-keeps, put-found, put-other, among-only, only-gone, remove-gone, remove-other}
 use Rattle.filter.proofs.Decided
 use Rattle.filter.proofs.Decided.{Decided, decided, as-came, sender-crosses, Opens, senderOf, loomOf, segIn, outcomeIn}
 use Rattle.filter.proofs.Sent.{fin-parts, left-sent}
@@ -242,21 +242,18 @@ module _ (c : Config) (g : Gate) where
     closed-open : (l : Key) → sameKey k l ≡ true → streamOf k g .shut ≡ true → streamOf l g .shut ≡ false → ⊥
     closed-open l e shut up = both-ways _ up (subst (λ (x : Key). streamOf x g .shut ≡ true) (same-key k l e) shut)
 
-    moved : (l : Key) → sameKey k l ≡ true → among k (g .keys) ≡ true → among l (g .keys) ≡ true
-    moved l e h = subst (λ (x : Key). among x (g .keys) ≡ true) (same-key k l e) h
-
     silent : (e : Event) (v : Verdict) → Decided c g e v → OfStream k e → among k (g .keys) ≡ true → streamOf k g .shut ≡ true → (apply v g ≡ g) × (outOf (answerOf v) ≡ [])
     silent _ _ (Decided.refuses side p n l why) o h s = (refl, refl)
     silent _ _ (Decided.elapses n) o h s = absurd o
-    silent _ _ (Decided.opening p r new n m alone) o h s = absurd (both-ways _ new (moved (senderOf p) o h))
+    silent _ _ (Decided.opening p r new n m alone) o h s = absurd (both-ways _ new (held-same k (senderOf p) (g .keys) o h))
     silent _ _ (Decided.bare p out r w n t x m) o h s = absurd (closed-open (senderOf p) o s (w .notShut))
     silent _ _ (Decided.takes p w is) o h s = absurd (closed-open (senderOf p) o s (w .isOpen .notShut))
     silent _ _ (Decided.acksOnly p w is m) o h s = absurd (closed-open (senderOf p) o s (w .isOpen .notShut))
     silent _ _ (Decided.shuts p w found is) o h s = absurd (closed-open (senderOf p) o s (w .isOpen .notShut))
-    silent _ _ (Decided.replies p out r new n t x) o h s = absurd (both-ways _ new (moved (loomOf p) o h))
+    silent _ _ (Decided.replies p out r new n t x) o h s = absurd (both-ways _ new (held-same k (loomOf p) (g .keys) o h))
     silent _ _ (Decided.again p r w n) o h s = absurd (closed-open (loomOf p) o s (w .notShut))
     silent _ _ (Decided.acks p r w own t x) o h s = absurd (closed-open (loomOf p) o s (w .notShut))
-    silent _ _ (Decided.begins p w n) o h s = absurd (closed-open (loomOf p) o s (w .new (moved (loomOf p) o h) .1))
+    silent _ _ (Decided.begins p w n) o h s = absurd (closed-open (loomOf p) o s (w .new (held-same k (loomOf p) (g .keys) o h) .1))
     silent _ _ (Decided.ends p out r w rst n t x) o h s = absurd (closed-open (loomOf p) o s (w .notShut))
 
 -- What is done with a packet depends on its own stream alone

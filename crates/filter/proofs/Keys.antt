@@ -30,10 +30,13 @@ same-key k l e =
     let s = eqb-true _ _ (d .1) in
     λ i. record { sender = p i; senderPort = q i; loom = r i; loomPort = s i }
 
+pub held-same : (k l : Key) (ks : List Key) → sameKey k l ≡ true → among k ks ≡ true → among l ks ≡ true
+held-same k l ks e h = subst (λ (x : Key). among x ks ≡ true) (same-key k l e) h
+
 -- a key that is held and one that is not differ
 pub held-apart : (k l : Key) (ks : List Key) → among k ks ≡ true → among l ks ≡ false → sameKey k l ≡ false
 held-apart k l ks h n =
-    ⊎-elim (λ e. absurd (both-ways _ n (subst (λ (x : Key). among x ks ≡ true) (same-key k l e) h))) (λ d. d) (cases-bool (sameKey k l))
+    ⊎-elim (λ e. absurd (both-ways _ n (held-same k l ks e h))) (λ d. d) (cases-bool (sameKey k l))
 
 -- a packet that was written in place of another is of the same stream
 pub reads-key : (p out : Bytes) (n a m : ℕ) (t : Bytes) → ReadsAs p out n a m t → keyFrom Outside (packet out) ≡ keyFrom Outside (packet p)

@@ -1,6 +1,7 @@
 pub mod Acks
 pub mod Counts
 pub mod Decided
+pub mod Example
 pub mod Few
 pub mod Follows
 pub mod ForwardLaws

@@ -20,7 +20,7 @@ pub data Done (width : ℕ) (words : List Text) (s : Stream) (a : Segment) : Out
       Done width words s a Empty
   passes : s .shut ≡ false → look words (s .text) (newText width s (pieceOf a)) ≡ None → Done width words s a (Passed (pieceLeft width s a) (finLeft width s a))
 
-nil-since : (t : Text) → isEmpty t ≡ true → t ≡ []
+pub nil-since : (t : Text) → isEmpty t ≡ true → t ≡ []
 nil-since [] e = refl
 nil-since (b ∷ bs) e = absurd (both-ways _ refl e)
 
