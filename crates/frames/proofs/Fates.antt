@@ -73,7 +73,7 @@ module _ (bs : Bytes) where
 
 -- what becomes of an item: it may still be mended, or it stays a fault, or it stays what it is
 pub data Fate (bs : Bytes) : Type 0 where
-  open-still : item bs ≡ Err Cut → Fate bs
+  open-still : item bs ≡ Err Cut → (((i : ℕ) → byte i bs < 256) → length bs ≤ 65538) → Fate bs
   lost : item bs ≡ Err Bad → ((more : Bytes) → item (bs ++ more) ≡ Err Bad) → Fate bs
   done : (r : ReadEvent) → item bs ≡ Ok r → ((more : Bytes) → item (bs ++ more) ≡ Ok r) → 0 < r .taken → r .taken ≤ length bs → Fate bs
 
@@ -108,7 +108,7 @@ module _ (bs more : Bytes) where
 packet-fate : (bs : Bytes) → 0 < length bs → byte 0 bs ≡ 1 → Fate bs
 packet-fate bs l e =
     elim (cases-lt 1 (length bs)) [
-      | inr short ↦ open-still (item-is-packet bs l e ∙ packet-short bs short)
+      | inr short ↦ open-still (item-is-packet bs l e ∙ packet-short bs short) (λ b. omega arith)
       | inl two ↦
           elim (cases-lt 1 (byte 1 bs)) [
             | inl s ↦
@@ -117,7 +117,7 @@ packet-fate bs l e =
                 item-is-packet (bs ++ more) (omega arith) (a ∙ e) ∙ packet-bad (bs ++ more) (omega arith) (omega arith))
             | inr s ↦
                 elim (cases-lt (length bs) (4 + read16 2 bs)) [
-                  | inl cut ↦ open-still (item-is-packet bs l e ∙ packet-cut bs s cut)
+                  | inl cut ↦ open-still (item-is-packet bs l e ∙ packet-cut bs s cut) (λ b. omega (arith, b 2, b 3))
                   | inr whole ↦
                       done (packetOf bs) (item-packet bs e s whole)
                       (λ more. let n = length-append bs more in let a = byte-on bs more 0 l in let b = byte-on bs more 1 two in let c = read16-on bs more 2 (omega arith) in
@@ -130,7 +130,7 @@ packet-fate bs l e =
 ticks-fate : (bs : Bytes) → 0 < length bs → byte 0 bs ≡ 2 → Fate bs
 ticks-fate bs l e =
     elim (cases-lt (length bs) 5) [
-      | inl cut ↦ open-still (item-is-ticks bs l e ∙ ticks-cut bs cut)
+      | inl cut ↦ open-still (item-is-ticks bs l e ∙ ticks-cut bs cut) (λ b. omega arith)
       | inr whole ↦
           done (ticksOf bs) (item-ticks bs e whole)
           (λ more. let n = length-append bs more in
@@ -141,7 +141,7 @@ ticks-fate bs l e =
 pub fate : (bs : Bytes) → Fate bs
 fate bs =
     elim (cases-lt 0 (length bs)) [
-      | inr none ↦ open-still (item-none bs (omega arith))
+      | inr none ↦ open-still (item-none bs (omega arith)) (λ b. omega arith)
       | inl l ↦ by-kind l (cases-eq (byte 0 bs) 1) (cases-eq (byte 0 bs) 2)
     ]
   where

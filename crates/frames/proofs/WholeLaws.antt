@@ -30,7 +30,7 @@ record Part (bs : Bytes) (r : ReadEvent) : Type 0 where
 item-part : (bs : Bytes) (r : ReadEvent) → item bs ≡ Ok r → Part bs r
 item-part bs r e =
     elim (fate bs) [
-      | open-still f ↦ absurd (let z : _≡_ {A = ℕ} 0 1 = cc in omega arith)
+      | open-still f k ↦ absurd (let z : _≡_ {A = ℕ} 0 1 = cc in omega arith)
       | lost f on ↦ absurd (let z : _≡_ {A = ℕ} 0 1 = cc in omega arith)
       | done s f on some within ↦ let p : s ≡ r = cc in subst (Part bs) p (record { some = some; within = within })
     ]
