@@ -1,21 +1,17 @@
 -- What more bytes make of an item and of a header. Assumes nothing.
-use mathlib.Core.Path.{_≡_, refl, sym, _∙_, ap, subst}
-use mathlib.Core.Bool.{Bool, true, false, cond}
-use mathlib.Core.List.{List, [], _∷_, _++_}
+use mathlib.Core.Path.{_≡_, sym, _∙_, ap}
+use mathlib.Core.List.{_++_}
 use mathlib.Core.Logic.{_⊎_, inl, inr}
-use Prim.Native.Nat.{ℕ, _+_, _-_, _*_, _<_, _≤_}
+use Prim.Native.Nat.{ℕ, _+_, _-_, _<_, _≤_}
 use native.Mathlib.Omega.{arith}
-use lib.Dec.{eqb}
-use lib.ListN.{length, getD, take, drop}
-use Rattle.std.specs.declared.result.Result.{Result}
+use lib.ListN.{length, take, drop}
 use Rattle.std.specs.declared.result.Result.the-variants.{Ok, Err}
 use Rattle.std.proofs.shelf.Lists.{length-append, length-drop, getD-append-left, take-append-le, drop-append-le}
 use Rattle.std.proofs.shelf.Tests.{cases-eq, cases-lt}
 use Rattle.std.proofs.shelf.Ways.{tells}
 use Rattle.packet.specs.Bytes.{Bytes, byte, read16, read32}
-use Rattle.filter.specs.Verdict.{Event, Comes, Ticks}
+use Rattle.filter.specs.Verdict.{Comes, Ticks}
 use Rattle.frames.specs.Items.{ReadEvent, header, item, packetItem, sideOf, ticksItem}
-use Rattle.frames.specs.declared.fault.Refusal.{Refusal}
 use Rattle.frames.specs.declared.fault.Refusal.the-variants.{Cut, Bad}
 
 abbrev pub packetOf : Bytes → ReadEvent

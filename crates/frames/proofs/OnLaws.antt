@@ -1,11 +1,10 @@
 -- More bytes change no answer but that an item is cut, and what was written is read back. Assumes nothing.
 use mathlib.Core.Path.{_≡_, refl, sym, _∙_, ap, subst}
-use mathlib.Core.Bool.{Bool, true, false, cond}
-use mathlib.Core.List.{List, [], _∷_, _++_}
+use mathlib.Core.List.{List, _++_}
 use mathlib.Core.Logic.{_⊎_, inl, inr}
 use Prim.Native.Nat.{ℕ, _+_, _-_, _*_, _/_, _%_, _<_, _≤_, _^_}
 use native.Mathlib.Omega.{arith}
-use lib.ListN.{length, getD, take, drop}
+use lib.ListN.{length, take, drop}
 use Rattle.std.specs.declared.result.Result.{Result}
 use Rattle.std.specs.declared.result.Result.the-variants.{Ok, Err}
 use Rattle.std.proofs.shelf.Lists.{length-append, length-drop, drop-append-le, take-at}
@@ -22,12 +21,12 @@ use Rattle.filter.specs.Config.{Side, Outside, Looms}
 use Rattle.filter.specs.Verdict.{Event, Comes, Ticks}
 use Rattle.frames.specs.Items.{ReadEvent, header, item, sideOf}
 use Rattle.frames.specs.Configs.{ReadSettings, configuration, faultOf, refusalOf, withHeader, withList}
-use Rattle.frames.specs.Whole.{ConfigReadsOn, CutIsShort, Fits, ItemReadsOn, SettledConfig, SettledItem, four, sideByte, two, writtenConfig, writtenEvent}
+use Rattle.frames.specs.Whole.{ConfigReadsOn, CutIsShort, Fits, ItemReadsOn, SettledConfig, SettledItem, sideByte, writtenConfig, writtenEvent}
 use Rattle.frames.specs.declared.fault.Fault.{Fault}
 use Rattle.frames.specs.declared.fault.Refusal.{Refusal}
 use Rattle.frames.specs.declared.fault.Refusal.the-variants.{Cut, Bad}
 use Rattle.frames.proofs.ListBounds.{Within, list-cut-short, list-within}
-use Rattle.frames.proofs.Fates.{Fate, open-still, lost, done, byte-on, fate, item-packet, item-ticks, packetOf, read32-on, ticksOf}
+use Rattle.frames.proofs.Fates.{open-still, lost, done, byte-on, fate, item-packet, item-ticks, read32-on}
 
 pub item-reads-on : ItemReadsOn
 item-reads-on bs more s =

@@ -1,7 +1,7 @@
-use mathlib.Core.Path.{_≡_, sym, _∙_, ap}
+use mathlib.Core.Path.{_∙_, ap}
 use mathlib.Core.List.{List, _++_}
 use native.Mathlib.Omega.{arith}
-use lib.ListN.{take, drop, length}
+use lib.ListN.{take, drop}
 use Rattle.std.proofs.shelf.Results.{err-from-errBy}
 use Rattle.frames.proofs.TakeLaws.{filled-within, filled-none, filled-some, filled-long, size-there}
 use Rattle.frames.proofs.input.Input.fill.Needs as need
