@@ -1,15 +1,14 @@
 -- Parts of a buffer. Assumes nothing.
-use mathlib.Core.Path.{_≡_, refl, sym, _∙_, ap}
-use mathlib.Core.List.{List, [], _∷_, _++_}
-use Prim.Native.Nat.{ℕ, _+_, _-_, _<_, _≤_}
+use mathlib.Core.Path.{_≡_, sym, _∙_, ap}
+use mathlib.Core.List.{_++_}
+use Prim.Native.Nat.{ℕ, _+_, _-_, _≤_}
 use native.Mathlib.Omega.{arith}
 use lib.ListN.{length, take, drop}
 use lib.Seq.{paste, take-add}
-use Rattle.std.proofs.shelf.Lists.{length-take, length-take-le, length-drop, take-take, drop-drop, drop-take, drop-append-le}
+use Rattle.std.proofs.shelf.Lists.{length-take-le, length-drop, take-take, drop-drop, drop-take, drop-append-le}
 use Rattle.std.proofs.shelf.Edits.{take-paste}
 use Rattle.std.proofs.shelf.Parts.{between-is}
 use Rattle.packet.specs.Bytes.{Bytes}
-use Rattle.filter.specs.declared.side.Side.{Side}
 
 module _ (xs : Bytes) (a e : ℕ) (forward : a ≤ e) (within : e ≤ length xs) where
   abbrev part : Bytes

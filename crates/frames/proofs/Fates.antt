@@ -1,21 +1,17 @@
 -- What more bytes make of an item and of a header. Assumes nothing.
-use mathlib.Core.Path.{_≡_, refl, sym, _∙_, ap, subst}
-use mathlib.Core.Bool.{Bool, true, false, cond}
-use mathlib.Core.List.{List, [], _∷_, _++_}
+use mathlib.Core.Path.{_≡_, sym, _∙_, ap}
+use mathlib.Core.List.{_++_}
 use mathlib.Core.Logic.{_⊎_, inl, inr}
-use Prim.Native.Nat.{ℕ, _+_, _-_, _*_, _<_, _≤_}
+use Prim.Native.Nat.{ℕ, _+_, _-_, _<_, _≤_}
 use native.Mathlib.Omega.{arith}
-use lib.Dec.{eqb}
-use lib.ListN.{length, getD, take, drop}
-use Rattle.std.specs.declared.result.Result.{Result}
+use lib.ListN.{length, take, drop}
 use Rattle.std.specs.declared.result.Result.the-variants.{Ok, Err}
 use Rattle.std.proofs.shelf.Lists.{length-append, length-drop, getD-append-left, take-append-le, drop-append-le}
 use Rattle.std.proofs.shelf.Tests.{cases-eq, cases-lt}
 use Rattle.std.proofs.shelf.Ways.{tells}
 use Rattle.packet.specs.Bytes.{Bytes, byte, read16, read32}
-use Rattle.filter.specs.Verdict.{Event, Comes, Ticks}
+use Rattle.filter.specs.Verdict.{Comes, Ticks}
 use Rattle.frames.specs.Items.{ReadEvent, header, item, packetItem, sideOf, ticksItem}
-use Rattle.frames.specs.declared.fault.Refusal.{Refusal}
 use Rattle.frames.specs.declared.fault.Refusal.the-variants.{Cut, Bad}
 
 abbrev pub packetOf : Bytes → ReadEvent
@@ -73,7 +69,7 @@ module _ (bs : Bytes) where
 
 -- what becomes of an item: it may still be mended, or it stays a fault, or it stays what it is
 pub data Fate (bs : Bytes) : Type 0 where
-  open-still : item bs ≡ Err Cut → Fate bs
+  open-still : item bs ≡ Err Cut → (((i : ℕ) → byte i bs < 256) → length bs ≤ 65538) → Fate bs
   lost : item bs ≡ Err Bad → ((more : Bytes) → item (bs ++ more) ≡ Err Bad) → Fate bs
   done : (r : ReadEvent) → item bs ≡ Ok r → ((more : Bytes) → item (bs ++ more) ≡ Ok r) → 0 < r .taken → r .taken ≤ length bs → Fate bs
 
@@ -108,7 +104,7 @@ module _ (bs more : Bytes) where
 packet-fate : (bs : Bytes) → 0 < length bs → byte 0 bs ≡ 1 → Fate bs
 packet-fate bs l e =
     elim (cases-lt 1 (length bs)) [
-      | inr short ↦ open-still (item-is-packet bs l e ∙ packet-short bs short)
+      | inr short ↦ open-still (item-is-packet bs l e ∙ packet-short bs short) (λ b. omega arith)
       | inl two ↦
           elim (cases-lt 1 (byte 1 bs)) [
             | inl s ↦
@@ -117,7 +113,7 @@ packet-fate bs l e =
                 item-is-packet (bs ++ more) (omega arith) (a ∙ e) ∙ packet-bad (bs ++ more) (omega arith) (omega arith))
             | inr s ↦
                 elim (cases-lt (length bs) (4 + read16 2 bs)) [
-                  | inl cut ↦ open-still (item-is-packet bs l e ∙ packet-cut bs s cut)
+                  | inl cut ↦ open-still (item-is-packet bs l e ∙ packet-cut bs s cut) (λ b. omega (arith, b 2, b 3))
                   | inr whole ↦
                       done (packetOf bs) (item-packet bs e s whole)
                       (λ more. let n = length-append bs more in let a = byte-on bs more 0 l in let b = byte-on bs more 1 two in let c = read16-on bs more 2 (omega arith) in
@@ -130,7 +126,7 @@ packet-fate bs l e =
 ticks-fate : (bs : Bytes) → 0 < length bs → byte 0 bs ≡ 2 → Fate bs
 ticks-fate bs l e =
     elim (cases-lt (length bs) 5) [
-      | inl cut ↦ open-still (item-is-ticks bs l e ∙ ticks-cut bs cut)
+      | inl cut ↦ open-still (item-is-ticks bs l e ∙ ticks-cut bs cut) (λ b. omega arith)
       | inr whole ↦
           done (ticksOf bs) (item-ticks bs e whole)
           (λ more. let n = length-append bs more in
@@ -141,7 +137,7 @@ ticks-fate bs l e =
 pub fate : (bs : Bytes) → Fate bs
 fate bs =
     elim (cases-lt 0 (length bs)) [
-      | inr none ↦ open-still (item-none bs (omega arith))
+      | inr none ↦ open-still (item-none bs (omega arith)) (λ b. omega arith)
       | inl l ↦ by-kind l (cases-eq (byte 0 bs) 1) (cases-eq (byte 0 bs) 2)
     ]
   where

@@ -1,7 +1,5 @@
 -- Reading items: what the parts of the reader say of the whole. Assumes nothing.
-use mathlib.Core.Path.{_≡_, refl, sym, _∙_, ap, subst}
-use mathlib.Core.Bool.{Bool, true, false, cond}
-use mathlib.Core.List.{List}
+use mathlib.Core.Path.{_≡_, _∙_, ap}
 use mathlib.Core.Logic.{inl, inr}
 use Prim.Native.Nat.{ℕ, _+_, _-_, _*_, _<_, _≤_}
 use native.Mathlib.Omega.{arith}
@@ -13,7 +11,7 @@ use Rattle.std.proofs.shelf.Tests.{cases-lt}
 use Rattle.std.proofs.shelf.Ways.{tells}
 use Rattle.packet.specs.Bytes.{Bytes, byte, read16}
 use Rattle.filter.specs.declared.side.Side.{Side}
-use Rattle.filter.specs.Verdict.{Event, Comes}
+use Rattle.filter.specs.Verdict.{Comes}
 use Rattle.frames.specs.Items.{ReadEvent, ReadsItem, modelSide, item, packetItem, sideOf, ticksItem}
 use Rattle.frames.specs.declared.fault.Refusal.{Refusal}
 use Rattle.frames.specs.declared.item.Item.{Item}

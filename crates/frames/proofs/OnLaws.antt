@@ -1,11 +1,10 @@
 -- More bytes change no answer but that an item is cut, and what was written is read back. Assumes nothing.
 use mathlib.Core.Path.{_≡_, refl, sym, _∙_, ap, subst}
-use mathlib.Core.Bool.{Bool, true, false, cond}
-use mathlib.Core.List.{List, [], _∷_, _++_}
+use mathlib.Core.List.{List, _++_}
 use mathlib.Core.Logic.{_⊎_, inl, inr}
 use Prim.Native.Nat.{ℕ, _+_, _-_, _*_, _/_, _%_, _<_, _≤_, _^_}
 use native.Mathlib.Omega.{arith}
-use lib.ListN.{length, getD, take, drop}
+use lib.ListN.{length, take, drop}
 use Rattle.std.specs.declared.result.Result.{Result}
 use Rattle.std.specs.declared.result.Result.the-variants.{Ok, Err}
 use Rattle.std.proofs.shelf.Lists.{length-append, length-drop, drop-append-le, take-at}
@@ -21,18 +20,18 @@ use Rattle.packet.specs.Bytes.{Bytes, byte, read16, read32}
 use Rattle.filter.specs.Config.{Side, Outside, Looms}
 use Rattle.filter.specs.Verdict.{Event, Comes, Ticks}
 use Rattle.frames.specs.Items.{ReadEvent, header, item, sideOf}
-use Rattle.frames.specs.Configs.{ReadSettings, configuration, refusalOf, withHeader, withList}
-use Rattle.frames.specs.Whole.{ConfigReadsOn, Fits, ItemReadsOn, SettledConfig, SettledItem, four, sideByte, two, writtenConfig, writtenEvent}
+use Rattle.frames.specs.Configs.{ReadSettings, configuration, faultOf, refusalOf, withHeader, withList}
+use Rattle.frames.specs.Whole.{ConfigReadsOn, CutIsShort, Fits, ItemReadsOn, SettledConfig, SettledItem, sideByte, writtenConfig, writtenEvent}
 use Rattle.frames.specs.declared.fault.Fault.{Fault}
 use Rattle.frames.specs.declared.fault.Refusal.{Refusal}
 use Rattle.frames.specs.declared.fault.Refusal.the-variants.{Cut, Bad}
-use Rattle.frames.proofs.ListBounds.{Within, list-within}
-use Rattle.frames.proofs.Fates.{Fate, open-still, lost, done, byte-on, fate, item-packet, item-ticks, packetOf, read32-on, ticksOf}
+use Rattle.frames.proofs.ListBounds.{Within, list-cut-short, list-within}
+use Rattle.frames.proofs.Fates.{open-still, lost, done, byte-on, fate, item-packet, item-ticks, read32-on}
 
 pub item-reads-on : ItemReadsOn
 item-reads-on bs more s =
     elim (fate bs) [
-      | open-still e ↦ absurd (subst SettledItem e s refl)
+      | open-still e k ↦ absurd (subst SettledItem e s refl)
       | lost e on ↦ on more ∙ sym e
       | done r e on some within ↦ on more ∙ sym e
     ]
@@ -40,7 +39,7 @@ item-reads-on bs more s =
 -- the header
 
 data HeaderFate (bs : Bytes) : Type 0 where
-  short : header bs ≡ Err Cut → HeaderFate bs
+  short : header bs ≡ Err Cut → length bs < 6 → HeaderFate bs
   wrong : header bs ≡ Err Bad → ((more : Bytes) → header (bs ++ more) ≡ Err Bad) → HeaderFate bs
   right : (h : ℕ × ℕ) → header bs ≡ Ok h → ((more : Bytes) → header (bs ++ more) ≡ Ok h) → 6 ≤ length bs → HeaderFate bs
 
@@ -93,21 +92,21 @@ powered bs l k =
       | inr p ↦
           elim (cases-lt 16 (byte 1 bs)) [
             | inl q ↦ wrong-power bs l k (inr q)
-            | inr q ↦ elim (cases-lt (length bs) 6) [ inl m ↦ short (header-cut bs l m k p q) | inr m ↦ right-header bs m k p q ]
+            | inr q ↦ elim (cases-lt (length bs) 6) [ inl m ↦ short (header-cut bs l m k p q) m | inr m ↦ right-header bs m k p q ]
           ]
     ]
 
 header-fate : (bs : Bytes) → HeaderFate bs
 header-fate bs =
     elim (cases-lt 0 (length bs)) [
-      | inr none ↦ short (header-none bs (omega arith))
+      | inr none ↦ short (header-none bs (omega arith)) (omega arith)
       | inl l ↦
           elim (cases-lt (byte 0 bs) 3) [
             | inl k ↦ wrong-kind bs l (inl k)
             | inr k ↦
                 elim (cases-lt 3 (byte 0 bs)) [
                   | inl m ↦ wrong-kind bs l (inr m)
-                  | inr m ↦ elim (cases-lt 1 (length bs)) [ inl t ↦ powered bs t (omega arith) | inr t ↦ short (header-one bs (omega arith) (omega arith)) ]
+                  | inr m ↦ elim (cases-lt 1 (length bs)) [ inl t ↦ powered bs t (omega arith) | inr t ↦ short (header-one bs (omega arith) (omega arith)) (omega arith) ]
                 ]
           ]
     ]
@@ -123,7 +122,7 @@ whole-list h (Err f) s = not-cut (f .refusal) s
 pub config-reads-on : ConfigReadsOn
 config-reads-on bs more s =
     elim (header-fate bs) [
-      | short e ↦ absurd (subst (λ (x : Result (ℕ × ℕ) Refusal). SettledConfig (withHeader x (wordList (drop 6 bs)))) e s refl)
+      | short e k ↦ absurd (subst (λ (x : Result (ℕ × ℕ) Refusal). SettledConfig (withHeader x (wordList (drop 6 bs)))) e s refl)
       | wrong e on ↦ ap (λ (x : Result (ℕ × ℕ) Refusal). withHeader x (wordList (drop 6 (bs ++ more)))) (on more) ∙ ap (λ (x : Result (ℕ × ℕ) Refusal). withHeader x (wordList (drop 6 bs))) (sym e)
       | right h e on l ↦
           let w : Whole (wordList (drop 6 bs)) = whole-list h (wordList (drop 6 bs)) (subst (λ (x : Result (ℕ × ℕ) Refusal). SettledConfig (withHeader x (wordList (drop 6 bs)))) e s) in
@@ -137,7 +136,7 @@ config-reads-on bs more s =
 pub config-within : (bs : Bytes) (r : ReadSettings) → configuration bs ≡ Ok r → r .taken ≤ length bs
 config-within bs r e =
     elim (header-fate bs) [
-      | short f ↦ absurd (refused Cut f)
+      | short f k ↦ absurd (refused Cut f)
       | wrong f on ↦ absurd (refused Bad f)
       | right h f on l ↦ go h l (wordList (drop 6 bs)) refl (ap (λ (x : Result (ℕ × ℕ) Refusal). withHeader x (wordList (drop 6 bs))) (sym f) ∙ e)
     ]
@@ -156,6 +155,45 @@ config-within bs r e =
         let z : record { settings = record { width = 2 ^ h .0; quiet = h .1; words = s .words }; taken = 6 + s .taken } ≡ r = cc in
         let t : 6 + s .taken ≡ r .taken = ap (λ (x : ReadSettings). x .taken) z in
         omega arith
+
+-- What is cut is short.
+
+item-short : (bs : Bytes) → ((i : ℕ) → byte i bs < 256) → item bs ≡ Err Cut → length bs ≤ 65538
+item-short bs b c =
+    elim (fate bs) [
+      | open-still e k ↦ k b
+      | lost e on ↦ absurd (let p : _≡_ {A = Result ReadEvent Refusal} (Err Bad) (Err Cut) = sym e ∙ c in let z : _≡_ {A = ℕ} 0 1 = cc in omega arith)
+      | done r e on some within ↦ absurd (let p : _≡_ {A = Result ReadEvent Refusal} (Ok r) (Err Cut) = sym e ∙ c in let z : _≡_ {A = ℕ} 0 1 = cc in omega arith)
+    ]
+
+same-refusal : (f g : Fault) → _≡_ {A = Result ReadSettings Fault} (Err f) (Err g) → f .refusal ≡ g .refusal
+same-refusal f g e = let p : f ≡ g = cc in ap (λ (x : Fault). x .refusal) p
+
+-- a configuration that is cut, by what its list is
+list-short : (h : ℕ × ℕ) (bs : Bytes) (at : ℕ) (x : Result ReadList ListFault) → wordList bs ≡ x → withList h x ≡ Err (record { refusal = Cut; at = at }) → length bs ≤ 4225
+list-short h bs at (Ok r) p q = absurd (let z : _≡_ {A = ℕ} 0 1 = cc in omega arith)
+list-short h bs at (Err f) p q = list-cut-short bs f (cut-is (f .refusal) (same-refusal (faultOf f) (record { refusal = Cut; at = at }) q)) p
+  where
+    cut-is : (why : ListRefusal) → refusalOf why ≡ Cut → why ≡ list.Cut
+    cut-is list.Cut e = refl
+    cut-is list.TooMuch e = absurd (let z : _≡_ {A = ℕ} 0 1 = cc in omega arith)
+    cut-is list.Twice e = absurd (let z : _≡_ {A = ℕ} 0 1 = cc in omega arith)
+
+config-short : (bs : Bytes) (at : ℕ) → configuration bs ≡ Err (record { refusal = Cut; at = at }) → length bs ≤ 4231
+config-short bs at e =
+    elim (header-fate bs) [
+      | short f k ↦ omega arith
+      | wrong f on ↦
+          absurd (let p = same-refusal (record { refusal = Bad; at = 0 }) (record { refusal = Cut; at = at }) (ap (λ (x : Result (ℕ × ℕ) Refusal). withHeader x (wordList (drop 6 bs))) (sym f) ∙ e) in
+          let z : _≡_ {A = ℕ} 0 1 = cc in omega arith)
+      | right h f on l ↦
+          let s = list-short h (drop 6 bs) at (wordList (drop 6 bs)) refl (ap (λ (x : Result (ℕ × ℕ) Refusal). withHeader x (wordList (drop 6 bs))) (sym f) ∙ e) in
+          let k = length-drop 6 bs in
+          omega arith
+    ]
+
+pub cut-is-short : CutIsShort
+cut-is-short bs b = (item-short bs b, config-short bs)
 
 -- What was written is read back.
 

@@ -1,6 +1,6 @@
 -- What was read from a part of the buffer stands in the buffer. Assumes nothing.
-use mathlib.Core.Path.{_≡_, refl, sym, _∙_, ap, subst}
-use mathlib.Core.List.{List, _++_}
+use mathlib.Core.Path.{_≡_, sym, _∙_, ap, subst}
+use mathlib.Core.List.{_++_}
 use Prim.Native.Nat.{ℕ, _+_, _-_, _<_, _≤_}
 use native.Mathlib.Omega.{arith}
 use lib.ListN.{length, take, drop}
@@ -17,7 +17,6 @@ use Rattle.frames.specs.Items.{ReadsItem, Placed, eventOf, item, modelSide}
 use Rattle.frames.specs.Buffer.{Inside, pending, placed}
 use Rattle.frames.specs.Configs.{ReadsConfig, configuration, settingsOf}
 use Rattle.frames.specs.declared.config.Config.{Config}
-use Rattle.frames.specs.declared.fault.Refusal.{Refusal}
 use Rattle.frames.specs.declared.item.Item.{Item}
 use Rattle.frames.specs.declared.item.Item.the-variants.{Packet, Ticks}
 use Rattle.frames.specs.declared.input.Input.{Input}

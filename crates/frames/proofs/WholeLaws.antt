@@ -4,22 +4,18 @@ use mathlib.Core.List.{List, [], _∷_, _++_}
 use Prim.Native.Nat.{ℕ, zero, suc, _+_, _-_, _<_, _≤_, _^_}
 use native.Mathlib.Omega.{arith}
 use lib.ListN.{length, drop}
-use Rattle.std.specs.declared.option.Option.{Option}
 use Rattle.std.specs.declared.option.Option.the-variants.{Some, None}
 use Rattle.std.specs.declared.result.Result.{Result}
 use Rattle.std.specs.declared.result.Result.the-variants.{Ok, Err}
 use Rattle.std.proofs.shelf.Lists.{append-nil, append-assoc, length-append, length-drop, drop-at, drop-append-le}
-use Rattle.automaton.specs.Lists.{Valid}
-use Rattle.automaton.specs.Text.{Text}
 use Rattle.packet.specs.Bytes.{Bytes}
 use Rattle.filter.specs.Verdict.{Event}
 use Rattle.frames.specs.Items.{ReadEvent, item}
-use Rattle.frames.specs.Configs.{ReadSettings, configuration}
-use Rattle.frames.specs.Whole.{arrives, breaks, comes, ends, fails, lacks, opens, reads, stops, AllFit, BlocksRead, Events, Fits, Opens, Reading, ReadsBack, SettledConfig, SettledItem, Takes, andThen, faulty, nothing, onwards, readAll, readEvents, takenOf, withEvents, writtenConfig, writtenEvent, writtenEvents}
-use Rattle.frames.specs.declared.fault.Fault.{Fault}
+use Rattle.frames.specs.Configs.{configuration}
+use Rattle.frames.specs.Whole.{arrives, breaks, comes, ends, fails, lacks, opens, reads, stops, AllFit, BlocksRead, Events, Opens, Reading, ReadsBack, SettledConfig, SettledItem, Takes, andThen, faulty, nothing, onwards, readAll, readEvents, takenOf, withEvents, writtenConfig, writtenEvent, writtenEvents}
 use Rattle.frames.specs.declared.fault.Refusal.{Refusal}
-use Rattle.frames.specs.declared.fault.Refusal.the-variants.{Cut, Bad}
-use Rattle.frames.proofs.Fates.{Fate, open-still, lost, done, fate, item-none}
+use Rattle.frames.specs.declared.fault.Refusal.the-variants.{Cut}
+use Rattle.frames.proofs.Fates.{open-still, lost, done, fate, item-none}
 use Rattle.frames.proofs.OnLaws.{config-back, config-reads-on, config-within, item-back, item-reads-on}
 
 -- what is read of an item is some bytes, and stands there
@@ -30,7 +26,7 @@ record Part (bs : Bytes) (r : ReadEvent) : Type 0 where
 item-part : (bs : Bytes) (r : ReadEvent) → item bs ≡ Ok r → Part bs r
 item-part bs r e =
     elim (fate bs) [
-      | open-still f ↦ absurd (let z : _≡_ {A = ℕ} 0 1 = cc in omega arith)
+      | open-still f k ↦ absurd (let z : _≡_ {A = ℕ} 0 1 = cc in omega arith)
       | lost f on ↦ absurd (let z : _≡_ {A = ℕ} 0 1 = cc in omega arith)
       | done s f on some within ↦ let p : s ≡ r = cc in subst (Part bs) p (record { some = some; within = within })
     ]

@@ -1,6 +1,6 @@
 -- The buffer through which the input is read. Assumes nothing.
 use mathlib.Core.Path.{_≡_}
-use mathlib.Core.List.{List, _++_}
+use mathlib.Core.List.{_++_}
 use Prim.Native.Nat.{ℕ, _+_, _-_, _%_, _<_, _≤_, _^_}
 use lib.ListN.{length, take, drop}
 use Rattle.std.specs.Of.Vec.{vec-items}
@@ -36,9 +36,16 @@ pub record SameInput (i j : Input) : Type 0 where
   pub offset : j .offset ≡ i .offset
   pub size : length (vec-items (j .buffer)) ≡ length (vec-items (i .buffer))
 
--- some bytes came behind those that are not read yet, or none
+-- n bytes came behind those that are not read yet
+pub record Grew (i j : Input) (n : ℕ) : Type 0 where
+  pub more : Bytes
+  pub many : length more ≡ n
+  pub left : pending j ≡ pending i ++ more
+  pub offset : j .offset ≡ i .offset
+  pub size : length (vec-items (j .buffer)) ≡ length (vec-items (i .buffer))
+
 abbrev pub Filled : {E : Type 0} → Input → Input → Result ℕ E → Type 0
-Filled i j (Ok n) = ((more : Bytes) × (length more ≡ n) × (pending j ≡ pending i ++ more) × (j .offset ≡ i .offset))
+Filled i j (Ok n) = Grew i j n
 Filled i j (Err e) = SameInput i j
 
 -- n bytes were read
@@ -51,8 +58,8 @@ pub record Read (i j : Input) (n : ℕ) : Type 0 where
 -- the configuration was read
 abbrev pub TookConfig : Input → Input → Result Config ConfigError → Type 0
 TookConfig i j (Ok c) = ((n : ℕ) × (configuration (pending i) ≡ Ok (record { settings = settingsOf c; taken = n })) × Read i j n)
-TookConfig i j (Err Memory) = SameInput i j
-TookConfig i j (Err (Refused f)) = ((at : ℕ) × (configuration (pending i) ≡ Err (record { refusal = f .refusal; at = at })) × (f .at ≡ (i .offset + at) % 2 ^ 64) × SameInput i j)
+TookConfig i j (Err Memory) = j ≡ i
+TookConfig i j (Err (Refused f)) = ((at : ℕ) × (configuration (pending i) ≡ Err (record { refusal = f .refusal; at = at })) × (f .at ≡ (i .offset + at) % 2 ^ 64) × (j ≡ i))
 
 abbrev pub Inside : Bytes → Item → Type 0
 Inside bs (Packet side start end) = (start ≤ end) × (end ≤ length bs)
@@ -68,4 +75,4 @@ pub record Took (i j : Input) (it : Item) (n : ℕ) : Type 0 where
 
 abbrev pub TookItem : Input → Input → Result Item Fault → Type 0
 TookItem i j (Ok it) = ((n : ℕ) × Took i j it n)
-TookItem i j (Err f) = (item (pending i) ≡ Err (f .refusal)) × (f .at ≡ i .offset) × SameInput i j
+TookItem i j (Err f) = (item (pending i) ≡ Err (f .refusal)) × (f .at ≡ i .offset) × (j ≡ i)

@@ -19,7 +19,7 @@ use Rattle.frames.specs.declared.fault.ConfigError.{ConfigError}
 use Rattle.frames.specs.declared.fault.ConfigError.the-variants.{Memory, Refused}
 use Rattle.frames.specs.declared.fault.Fault.{Fault}
 use Rattle.frames.specs.declared.fault.Refusal.{Refusal}
-use Rattle.frames.specs.declared.fault.Refusal.the-variants.{Cut, Bad, TooMuch, Twice}
+use Rattle.frames.specs.declared.fault.Refusal.the-variants.{Cut, TooMuch, Twice}
 
 -- settings that were read, and how many bytes they took
 pub record ReadSettings : Type 0 where

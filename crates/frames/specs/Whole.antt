@@ -9,7 +9,7 @@ use Rattle.std.specs.declared.result.Result.{Result}
 use Rattle.std.specs.declared.result.Result.the-variants.{Ok, Err}
 use Rattle.automaton.specs.Lists.{Valid, written}
 use Rattle.automaton.specs.Text.{Text}
-use Rattle.packet.specs.Bytes.{Bytes}
+use Rattle.packet.specs.Bytes.{Bytes, byte}
 use Rattle.filter.specs.Config.{Side, Outside, Looms, Config as Settings}
 use Rattle.filter.specs.Verdict.{Event, Comes, Ticks}
 use Rattle.frames.specs.Items.{ReadEvent, item, refusalNumber}
@@ -115,6 +115,12 @@ SettledConfig (Err f) = f .refusal ≡ Cut → ⊥
 
 abbrev pub ConfigReadsOn : Type 0
 ConfigReadsOn = (bs more : Bytes) → SettledConfig (configuration bs) → configuration (bs ++ more) ≡ configuration bs
+
+-- What is cut is short: there is always room for more of it in the buffer.
+abbrev pub CutIsShort : Type 0
+CutIsShort =
+    (bs : Bytes) → ((i : ℕ) → byte i bs < 256) →
+    (item bs ≡ Err Cut → length bs ≤ 65538) × ((at : ℕ) → configuration bs ≡ Err (record { refusal = Cut; at = at }) → length bs ≤ 4231)
 
 -- What was written is read back.
 abbrev pub ReadsBack : Type 0

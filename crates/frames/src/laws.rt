@@ -1,5 +1,5 @@
 // What holds of the input in general. Each function's contract is the theorem.
-ghost use Rattle.frames.specs.Whole.{BlocksRead, ConfigReadsOn, ItemReadsOn, ReadsBack};
+ghost use Rattle.frames.specs.Whole.{BlocksRead, ConfigReadsOn, CutIsShort, ItemReadsOn, ReadsBack};
 
 // More bytes change no item, but one that is cut.
 pub fn item_reads_on() -> u8
@@ -11,6 +11,13 @@ pub fn item_reads_on() -> u8
 // More bytes change no configuration, but one that is cut.
 pub fn config_reads_on() -> u8
     ensures { λ _. ⌜ ConfigReadsOn ⌝ }
+{
+    0
+}
+
+// What is cut is short, so that there is room for more of it.
+pub fn cut_is_short() -> u8
+    ensures { λ _. ⌜ CutIsShort ⌝ }
 {
     0
 }

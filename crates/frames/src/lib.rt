@@ -21,3 +21,6 @@ pub use input::Input;
 pub use item::Item;
 pub use item::ItemDebug;
 pub use item::ItemPartialEq;
+
+#[cfg(test)]
+mod tests;

@@ -1,7 +1,6 @@
 use mathlib.Core.Path.{refl, sym, _∙_, ap}
 use native.Mathlib.Omega.{arith}
 use Rattle.std.proofs.shelf.Ways.{tells}
-use Rattle.packet.specs.Bytes.{byte}
 use Rattle.frames.specs.Items.{modelSide, packetItem, sideOf}
 use Rattle.frames.proofs.ItemLaws.{packet-read}
 use Rattle.frames.proofs.read.read_packet.Needs as need

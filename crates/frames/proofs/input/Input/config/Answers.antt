@@ -1,5 +1,4 @@
 use mathlib.Core.Path.{refl}
-use native.Mathlib.Omega.{arith}
 use Rattle.std.specs.Of.Vec.{vec-items}
 use Rattle.frames.proofs.TakeLaws.{took-config}
 use Rattle.frames.proofs.input.Input.config.Needs as need

@@ -1,7 +1,7 @@
-use mathlib.Core.Path.{_≡_, sym, _∙_, ap}
+use mathlib.Core.Path.{_∙_, ap}
 use mathlib.Core.List.{List, _++_}
 use native.Mathlib.Omega.{arith}
-use lib.ListN.{take, drop, length}
+use lib.ListN.{take, drop}
 use Rattle.std.proofs.shelf.Results.{err-from-errBy}
 use Rattle.frames.proofs.TakeLaws.{filled-within, filled-none, filled-some, filled-long, size-there}
 use Rattle.frames.proofs.input.Input.fill.Needs as need
@@ -35,9 +35,12 @@ returns g c =
     let v = c .compact .last .self in
     let n = c .in-Continue-count .count in
     let ws = c .read-behind .last .buffer in
-    let e = c .in-Continue-count .ensures tt in (
-      take n (drop (v .end) ws),
-      filled-long v (c .deref-mut .result .now) ws (c .deref-mut .ensures .value) (c .read-behind .kept .buffer) (e .same) n (e .count),
-      filled-some v (c .deref-mut .result .now) ws (c .deref-mut .ensures .value) (c .read-behind .kept .buffer) (e .same) n (e .count) ∙ ap (λ (t : List _). t ++ take n (drop (v .end) ws)) (c .compact .ensures .same .left),
-      c .compact .ensures .same .offset,
-    )
+    let e = c .in-Continue-count .ensures tt in
+    let same = c .compact .ensures .same in
+    record {
+      more = take n (drop (v .end) ws);
+      many = filled-long v (c .deref-mut .result .now) ws (c .deref-mut .ensures .value) (c .read-behind .kept .buffer) (e .same) n (e .count);
+      left = filled-some v (c .deref-mut .result .now) ws (c .deref-mut .ensures .value) (c .read-behind .kept .buffer) (e .same) n (e .count) ∙ ap (λ (t : List _). t ++ take n (drop (v .end) ws)) (same .left);
+      offset = same .offset;
+      size = size-there v (c .deref-mut .result .now) ws (c .deref-mut .ensures .value) (c .read-behind .kept .buffer) (e .same) ∙ same .size;
+    }
