@@ -1,4 +1,6 @@
 // The gate.
+#![tactic(auto)]
+
 mod acknowledge;
 mod connection;
 mod forward;

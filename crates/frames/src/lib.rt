@@ -1,4 +1,6 @@
 // The gate's input as bytes: first the configuration, then packets and ticks, each read from the front of what has come.
+#![tactic(auto)]
+
 mod config;
 mod fault;
 mod fill;

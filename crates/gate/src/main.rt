@@ -1,4 +1,6 @@
 // The gate between the outside and the looms: reads packets and ticks, passes on what may pass.
+#![tactic(auto)]
+
 ghost use Rattle.std.specs.Prelude.{◌≤◌, length};
 
 use filter::Side;

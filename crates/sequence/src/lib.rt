@@ -1,4 +1,6 @@
 // Sequence numbers of 32 bits, and the places of a stream for which they stand.
+#![tactic(auto)]
+
 ghost use Rattle.std.specs.Prelude.{◌≡◌, ◌≤◌, min};
 ghost use Rattle.sequence.specs.Model.{fitting, model_of};
 ghost use Rattle.sequence.specs.Places.{before, number_of, place_after, place_of};

@@ -1,4 +1,6 @@
 // A sender that sends one place twice, with different bytes, and what becomes of it: by the old way, and by ours.
+#![tactic(auto)]
+
 use anyhow::anyhow;
 use automaton::{Table, WordList};
 use sequence::Place;

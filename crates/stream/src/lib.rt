@@ -1,4 +1,6 @@
 // One direction of a stream: what is known of each place, the text looked at so far, and what of a segment is passed on.
+#![tactic(auto)]
+
 pub mod laws;
 mod look;
 mod marks;

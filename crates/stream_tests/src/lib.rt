@@ -1,4 +1,6 @@
 // Tests of one direction of a stream, through its public functions alone.
+#![tactic(auto)]
+
 #[cfg(test)]
 mod bench;
 #[cfg(test)]

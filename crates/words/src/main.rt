@@ -1,4 +1,6 @@
 // Prints the table of a word list.
+#![tactic(auto)]
+
 ghost use Rattle.std.specs.Prelude.{◌≡◌};
 ghost use Rattle.automaton.specs.Lists.{refusal_number};
 
