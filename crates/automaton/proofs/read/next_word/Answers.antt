@@ -42,5 +42,5 @@ returns c =
     let l = length-map c.args.words.now vec_items in
     let e = part c.args.at c.from-len.result _ c.args.bytes.now c.from-len.ensures refl in
     let p : member (word c.args.at c.args.bytes.now) (words_of c.args.words.now) ≡ false =
-    ap (λ w. member w (words_of c.args.words.now)) (sym e) ∙ sym c.is-among.ensures ∙ c.if-is-among.false in
+    ap (λ w. member w (words_of c.args.words.now)) (sym e) ∙ sym c.is_among.ensures ∙ c.if-is_among.false in
     (grind (arith, nat_tests), e)

@@ -13,5 +13,5 @@ loop-i-preserved c = (
 
 pub returns : goal.returns
 returns c =
-    let last : little_sum (drop c.loop-i.i c.args.bytes.now) ≡ c.last-bytes.result = sym (c.last-bytes.ensures.value ∙ ap little_sum (take_rest c.args.bytes.now c.loop-i.i)) in
+    let last : little_sum (drop c.loop-i.i c.args.bytes.now) ≡ c.last_bytes.result = sym (c.last_bytes.ensures.value ∙ ap little_sum (take_rest c.args.bytes.now c.loop-i.i)) in
     record { value = omega arith; bound = omega arith }

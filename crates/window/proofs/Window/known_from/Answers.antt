@@ -27,9 +27,9 @@ returns c =
     let at = c.cell-at.result in
     let first = c.min-first.result in
     let n = c.run-n.result in
-    let bytes : c.as-slice-bytes.result.now ≡ vec_items w.bytes = c.as-slice-bytes.ensures.value in
-    let bits : c.as-slice-bits.result.now ≡ vec_items w.bits = c.as-slice-bits.ensures.value in
-    let count = length c.as-slice-bytes.result.now - (from - w.low) in
+    let bytes : c.as_slice-bytes.result.now ≡ vec_items w.bytes = c.as_slice-bytes.ensures.value in
+    let bits : c.as_slice-bits.result.now ≡ vec_items w.bits = c.as_slice-bits.ensures.value in
+    let count = length c.as_slice-bytes.result.now - (from - w.low) in
     let size : length (vec_items w.bytes) ≡ width w = omega arith in
     let runs = window_runs w from count at first c.cell-at.ensures (omega arith) (record { above = λ h. omega arith; below = λ h. omega arith }) in
     let one = rw bits at c.run-n.ensures in
@@ -39,8 +39,8 @@ returns c =
           rw (run, bytes, v.more-is, append-nil)
           (known_first (width w) w.low from count at first (count - first) (vec_items w.bytes) (vec_items w.bits) runs (omega arith) (omega arith) size n one v.if-n-first.true)
       | else-n-first v ↦
-          let more : c.if-n-first.more - 0 ≡ v.run_more.result = omega arith in
+          let more : c.if-n-first.more - 0 ≡ v.run-more.result = omega arith in
           rw (run, more, bytes)
-          (known_both (width w) w.low from count at first (count - first) (vec_items w.bytes) (vec_items w.bits) runs (omega arith) (omega arith) size n one v.run_more.result (omega arith)
-          (rw bits at v.run_more.ensures))
+          (known_both (width w) w.low from count at first (count - first) (vec_items w.bytes) (vec_items w.bits) runs (omega arith) (omega arith) size n one v.run-more.result (omega arith)
+          (rw bits at v.run-more.ensures))
     ]

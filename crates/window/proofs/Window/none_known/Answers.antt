@@ -21,7 +21,7 @@ returns-then-none c =
     let count = c.len-cells.result - (place - w.low) in
     let at = c.cell-at.result in
     let first = c.min-first.result in
-    let bits : c.as-slice-bits.result.now ≡ vec_items w.bits = c.as-slice-bits.ensures.value in
+    let bits : c.as_slice-bits.result.now ≡ vec_items w.bits = c.as_slice-bits.ensures.value in
     let runs = window_runs w place count at first c.cell-at.ensures (omega arith) (record { above = λ h. omega arith; below = λ h. omega arith }) in
     ap (λ (a : Bool). a && c.none-then-none.result) (sym c.if-none.true)
     ∙ none_runs (width w) w.low c.args.from place count at first (count - first) (vec_items w.bytes) (vec_items w.bits) runs (omega arith) (omega arith)
@@ -35,7 +35,7 @@ returns-else-none c =
     let count = c.len-cells.result - (place - w.low) in
     let at = c.cell-at.result in
     let first = c.min-first.result in
-    let bits : c.as-slice-bits.result.now ≡ vec_items w.bits = c.as-slice-bits.ensures.value in
+    let bits : c.as_slice-bits.result.now ≡ vec_items w.bits = c.as_slice-bits.ensures.value in
     let runs = window_runs w place count at first c.cell-at.ensures (omega arith) (record { above = λ h. omega arith; below = λ h. omega arith }) in
     none_first (width w) w.low c.args.from place count at first (count - first) (vec_items w.bytes) (vec_items w.bits) runs (omega arith) (omega arith)
     c.none.result (rw bits at c.none.ensures) c.if-none.false

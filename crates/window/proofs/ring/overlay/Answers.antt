@@ -10,6 +10,6 @@ loop-done-preserved c =
     let n = c.run-n.result in
     let size : i + z + n - (i + z) ≡ n = omega arith in (
       omega arith,
-      rw size (overlaid_turn c.args.ring.now c.args.bits.now c.args.part.now c.loop-done.part c.copy-from-slice.new.self c.args.at i z n
+      rw size (overlaid_turn c.args.ring.now c.args.bits.now c.args.part.now c.loop-done.part c.copy_from_slice.new.self c.args.at i z n
           c.loop-done.invariant.1 c.run-done.ensures c.run-n.ensures (omega arith) (search (rules, places)) (λ k h. search (rules, places))),
     )

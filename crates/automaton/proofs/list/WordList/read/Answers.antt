@@ -19,14 +19,14 @@ returns-in-err-word c =
 
 pub loop-read-preserved : goal.loop-read-preserved
 loop-read-preserved c =
-    let f = c.in-ok-word.ensures in
+    let f = c.in_ok-word.ensures in
     let e = c.in-ok-push.ensures.items in
     let w = c.in-ok-to-vec.ensures.items-if-clones-equal (λ x y e. e) in
-    let p : words_of (vec_items c.push.new.self) ≡ words_of (vec_items c.loop-read.words) ++ (c.in-ok-word.word.now ∷ []) = ap words_of e ∙ map-append vec_items (vec_items c.loop-read.words) _ ∙ ap (λ t. words_of (vec_items c.loop-read.words) ++ (t ∷ [])) w in
+    let p : words_of (vec_items c.push.new.self) ≡ words_of (vec_items c.loop-read.words) ++ (c.in_ok-word.word.now ∷ []) = ap words_of e ∙ map-append vec_items (vec_items c.loop-read.words) _ ∙ ap (λ t. words_of (vec_items c.loop-read.words) ++ (t ∷ [])) w in
     rw p (reading_more c.args.bytes.now c.from-read-end.result c.loop-read.-read (words_of (vec_items c.loop-read.words)) c.loop-read.size c.loop-read.at
-    c.loop-read.invariant c.loop-read-test.true (rw (← c.deref.ensures.value) f.0) c.in-ok-word.word.now f.1)
+    c.loop-read.invariant c.loop-read-test.true (rw (← c.deref.ensures.value) f.0) c.in_ok-word.word.now f.1)
 
 pub returns : goal.returns
 returns c =
-    reading_all c.args.bytes.now c.from-read-end.result c.loop-read.-read (words_of (vec_items c.loop-read.words)) c.loop-read.size c.loop-read.at
+    reading_all c.args.bytes.now c.from-read-end.result c.loop-read._read (words_of (vec_items c.loop-read.words)) c.loop-read.size c.loop-read.at
     c.loop-read.invariant c.loop-read-test.false

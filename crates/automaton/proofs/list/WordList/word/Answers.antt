@@ -7,7 +7,7 @@ pub returns-then-number-len : goal.returns-then-number-len
 returns-then-number-len c =
     let l = length-map (vec_items c.args.self.now.words) vec_items in (
       omega (arith, c.if-number-len.true, c.len.ensures, c.args.self.now.words.ok.0),
-      c.as-slice.ensures.value ∙ sym (word_at_lem (vec_items c.args.self.now.words) c.args.number _ (omega (arith, c.if-number-len.true, c.len.ensures, c.args.self.now.words.ok.0)) c.index.ensures),
+      c.as_slice.ensures.value ∙ sym (word_at_lem (vec_items c.args.self.now.words) c.args.number _ (omega (arith, c.if-number-len.true, c.len.ensures, c.args.self.now.words.ok.0)) c.index.ensures),
     )
 
 pub returns-else-number-len : goal.returns-else-number-len
