@@ -29,7 +29,7 @@ pub returns-in-Greater : goal.returns-in-Greater
 returns-in-Greater c =
     let low = c.min-low.result in
     let far = more_than c.cmp.result _ _ c.cmp.ensures c.in-Greater.is in
-    let place = c.before-in-Greater.ensures ∙ sym (place_down c.args.first low c.args.number _ c.wrapping-neg.result refl (omega arith) (omega arith)) in
+    let place = c.before-in-Greater.ensures ∙ sym (place_down c.args.first low c.args.number _ c.wrapping_neg.result refl (omega arith) (omega arith)) in
     record {
       place = place ∙ ap (λ (l : ℕ). place_of c.args.first l c.args.number) c.min-low.ensures;
       within = λ h. let is : low ≡ c.args.low = omega arith in place ∙ ap (λ (l : ℕ). place_of c.args.first l c.args.number) is;

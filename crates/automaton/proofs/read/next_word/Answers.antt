@@ -6,9 +6,9 @@ use Rattle.automaton.specs.Text.{member}
 use Rattle.automaton.specs.Words.{words_of}
 use Rattle.automaton.proofs.read.next_word.Goals as goal
 
-pub returns-then-words-ge-MOST-WORDS : goal.returns-then-words-ge-MOST-WORDS
+pub returns-then-words-ge-MOST_WORDS : goal.returns-then-words-ge-MOST_WORDS
 unfolding refusal_at
-returns-then-words-ge-MOST-WORDS c = let l = length-map c.args.words.now vec_items in (grind (arith, nat_tests), refl)
+returns-then-words-ge-MOST_WORDS c = let l = length-map c.args.words.now vec_items in (grind (arith, nat_tests), refl)
 
 pub returns-then-at-bytes : goal.returns-then-at-bytes
 unfolding refusal_at
@@ -28,12 +28,12 @@ part at n m bs e em =
     let h : at + 1 + n - (at + 1) ≡ n = omega arith in
     ap (λ k. take k (drop (at + 1) bs)) (h ∙ e ∙ ap (λ k. get_or bs k 0) em)
 
-pub returns-then-is-among : goal.returns-then-is-among
+pub returns-then-is_among : goal.returns-then-is_among
 unfolding refusal_at
-returns-then-is-among c =
+returns-then-is_among c =
     let l = length-map c.args.words.now vec_items in
     let p : member (word c.args.at c.args.bytes.now) (words_of c.args.words.now) ≡ true =
-    ap (λ w. member w (words_of c.args.words.now)) (sym (part c.args.at c.from-len.result _ c.args.bytes.now c.from-len.ensures refl)) ∙ sym c.is-among.ensures ∙ c.if-is-among.true in
+    ap (λ w. member w (words_of c.args.words.now)) (sym (part c.args.at c.from-len.result _ c.args.bytes.now c.from-len.ensures refl)) ∙ sym c.is_among.ensures ∙ c.if-is_among.true in
     (grind (arith, nat_tests), refl)
 
 pub returns : goal.returns

@@ -11,5 +11,5 @@ returns-in-2 c = record { value = omega (arith, little_two c.args.bytes.now (ome
 pub returns-in-1 : goal.returns-in-1
 returns-in-1 c = record { value = omega (arith, little_one c.args.bytes.now (omega arith)); bound = omega arith }
 
-pub returns-in-default : goal.returns-in-default
-returns-in-default c = record { value = omega (arith, little_none c.args.bytes.now (omega arith)); bound = omega arith }
+pub returns-in_default : goal.returns-in_default
+returns-in_default c = record { value = omega (arith, little_none c.args.bytes.now (omega arith)); bound = omega arith }

@@ -10,18 +10,18 @@ loop-read-init c =
     let i = c.in-Some.ensures.item in
     rw c.new-words.ensures.items (reading_none c.args.bytes.now c.from-read-end.result c.in-Some.count.now i.3.0 i.1 c.from-read-end.ensures)
 
-pub returns-in-err-word : goal.returns-in-err-word
-returns-in-err-word c =
-    let p = err_from_is_err_and c.from-residual.result c.from-residual.ensures.1 in
-    let f = c.in-err-word.ensures in
+pub returns-in_err-word : goal.returns-in_err-word
+returns-in_err-word c =
+    let p = err_from_is_err_and c.from_residual.result c.from_residual.ensures.1 in
+    let f = c.in_err-word.ensures in
     rw (p.1, p.2) (reading_fault c.args.bytes.now c.from-read-end.result c.loop-read.-read (words_of (vec_items c.loop-read.words)) c.loop-read.size c.loop-read.at
     c.loop-read.invariant c.loop-read-test.true _ (rw (← c.deref.ensures.value) f.0) f.1)
 
 pub loop-read-preserved : goal.loop-read-preserved
 loop-read-preserved c =
     let f = c.in_ok-word.ensures in
-    let e = c.in-ok-push.ensures.items in
-    let w = c.in-ok-to-vec.ensures.items-if-clones-equal (λ x y e. e) in
+    let e = c.in_ok-push.ensures.items in
+    let w = c.in_ok-to_vec.ensures.items_if_clones_equal (λ x y e. e) in
     let p : words_of (vec_items c.push.new.self) ≡ words_of (vec_items c.loop-read.words) ++ (c.in_ok-word.word.now ∷ []) = ap words_of e ∙ map-append vec_items (vec_items c.loop-read.words) _ ∙ ap (λ t. words_of (vec_items c.loop-read.words) ++ (t ∷ [])) w in
     rw p (reading_more c.args.bytes.now c.from-read-end.result c.loop-read.-read (words_of (vec_items c.loop-read.words)) c.loop-read.size c.loop-read.at
     c.loop-read.invariant c.loop-read-test.true (rw (← c.deref.ensures.value) f.0) c.in_ok-word.word.now f.1)
