@@ -1,5 +1,6 @@
-use Rattle.std.proofs.Common.{◌≡◌, ℕ, ◌<◌, ◌≤◌, ◌⊎◌, Ordering, Less, Equal, Greater, sym, refl, ap, ◌∙◌, inl, inr, arith}
+use Rattle.std.proofs.Common.{◌≡◌, ℕ, ◌+◌, ◌-◌, ◌%◌, ◌<◌, ◌≤◌, ◌⊎◌, Ordering, Less, Equal, Greater, sym, refl, ap, ◌∙◌, inl, inr, arith}
 use Rattle.std.specs.Ordering.{MatchOrdering}
+use Rattle.std.proofs.lemmas.Cmp.{ranked}
 use Rattle.sequence.specs.Places.{place_of}
 use Rattle.sequence.proofs.PlaceLaws.{place_up, place_down}
 use Rattle.sequence.proofs.place_of.Goals as goal
@@ -18,7 +19,8 @@ more_than Greater a b r e = r
 pub returns-in-Less : goal.returns-in-Less
 returns-in-Less c =
     let low = c.min-low.result in
-    let near = at_most c.cmp.result _ _ c.cmp.ensures c.in-Less.is in
+    let ahead = (c.args.number + (4294967296 - c.number_of.result)) % 4294967296 in
+    let near = at_most c.cmp.result ahead 2147483648 (ranked ahead 2147483648 c.cmp.result c.cmp.ensures) c.in-Less.is in
     let place = sym (place_up c.args.first low c.args.number c.from.result (omega arith) (omega arith)) in
     record {
       place = place ∙ ap (λ (l : ℕ). place_of c.args.first l c.args.number) c.min-low.ensures;
@@ -28,7 +30,8 @@ returns-in-Less c =
 pub returns-in-Greater : goal.returns-in-Greater
 returns-in-Greater c =
     let low = c.min-low.result in
-    let far = more_than c.cmp.result _ _ c.cmp.ensures c.in-Greater.is in
+    let ahead = (c.args.number + (4294967296 - c.number_of.result)) % 4294967296 in
+    let far = more_than c.cmp.result ahead 2147483648 (ranked ahead 2147483648 c.cmp.result c.cmp.ensures) c.in-Greater.is in
     let place = c.before-in-Greater.ensures ∙ sym (place_down c.args.first low c.args.number _ c.wrapping_neg.result refl (omega arith) (omega arith)) in
     record {
       place = place ∙ ap (λ (l : ℕ). place_of c.args.first l c.args.number) c.min-low.ensures;

@@ -10,7 +10,7 @@ returns-then-k-n c =
     let done = c.loop-done.done in
     let n = c.min-n.result in
     let first = and_mask (from + done) 6 in
-    let small : get_or words ((from + done) / 64) 0 < 2 ^ 64 = omega (arith, c.ok.words ((from + done) / 64)) in
+    let small : get_or words ((from + done) / 64) 0 < 2 ^ 64 = omega (arith, c.type_inv.words ((from + done) / 64)) in
     let short = rw first at c.if-k-n.true in
     rw first (record {
       most = omega arith;
@@ -25,7 +25,7 @@ loop-done-preserved c =
     let done = c.loop-done.done in
     let n = c.min-n.result in
     let first = and_mask (from + done) 6 in
-    let small : get_or words ((from + done) / 64) 0 < 2 ^ 64 = omega (arith, c.ok.words ((from + done) / 64)) in
+    let small : get_or words ((from + done) / 64) 0 < 2 ^ 64 = omega (arith, c.type_inv.words ((from + done) / 64)) in
     let long = rw first at c.if-k-n.false in (
       omega arith,
       alike_more words c.args.value from done n c.others.result small c.others.ensures (omega arith) c.loop-done.invariant.1 n (omega arith) long,

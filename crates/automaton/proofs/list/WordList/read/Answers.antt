@@ -14,7 +14,7 @@ pub returns-in_err-word : goal.returns-in_err-word
 returns-in_err-word c =
     let p = err_from_is_err_and c.from_residual.result c.from_residual.ensures.1 in
     let f = c.in_err-word.ensures in
-    rw (p.1, p.2) (reading_fault c.args.bytes.now c.from-read-end.result c.loop-read.-read (words_of (vec_items c.loop-read.words)) c.loop-read.size c.loop-read.at
+    rw (p.1, p.2) (reading_fault c.args.bytes.now c.from-read-end.result c.loop-read._read (words_of (vec_items c.loop-read.words)) c.loop-read.size c.loop-read.at
     c.loop-read.invariant c.loop-read-test.true _ (rw (← c.deref.ensures.value) f.0) f.1)
 
 pub loop-read-preserved : goal.loop-read-preserved
@@ -23,7 +23,7 @@ loop-read-preserved c =
     let e = c.in_ok-push.ensures.items in
     let w = c.in_ok-to_vec.ensures.items_if_clones_equal (λ x y e. e) in
     let p : words_of (vec_items c.push.new.self) ≡ words_of (vec_items c.loop-read.words) ++ (c.in_ok-word.word.now ∷ []) = ap words_of e ∙ map-append vec_items (vec_items c.loop-read.words) _ ∙ ap (λ t. words_of (vec_items c.loop-read.words) ++ (t ∷ [])) w in
-    rw p (reading_more c.args.bytes.now c.from-read-end.result c.loop-read.-read (words_of (vec_items c.loop-read.words)) c.loop-read.size c.loop-read.at
+    rw p (reading_more c.args.bytes.now c.from-read-end.result c.loop-read._read (words_of (vec_items c.loop-read.words)) c.loop-read.size c.loop-read.at
     c.loop-read.invariant c.loop-read-test.true (rw (← c.deref.ensures.value) f.0) c.in_ok-word.word.now f.1)
 
 pub returns : goal.returns
