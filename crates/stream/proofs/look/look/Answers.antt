@@ -65,29 +65,29 @@ returns-in-Found c ws t h e n a k =
     found_part c.args.window.now ws t c.args.end c.args.place c.args.part.now [] [] n a k c.if-place-end.false c.if-reach-end.false c.requires.within
     c.in-Found.i c.in-Found.word (c.in-Found.ensures.finds ws t h e)
 
-pub overflow-add-result-in-Clean-look-both-2 : goal.overflow-add-result-in-Clean-look-both-2
-overflow-add-result-in-Clean-look-both-2 c =
-    omega (arith, run_most c.args.window.now (c.args.place + length c.args.part.now) c.known-from.result.0.now c.known-from.result.1.now c.known-from.ensures, c.requires.fits (omega arith))
+pub overflow_add-result-in-Clean-look_both-2 : goal.overflow_add-result-in-Clean-look_both-2
+overflow_add-result-in-Clean-look_both-2 c =
+    omega (arith, run_most c.args.window.now (c.args.place + length c.args.part.now) c.known_from.result.0.now c.known_from.result.1.now c.known_from.ensures, c.requires.fits (omega arith))
 
-pub overflow-add-result-in-Found-look-both : goal.overflow-add-result-in-Found-look-both
-overflow-add-result-in-Found-look-both c =
+pub overflow_add-result-in-Found-look_both : goal.overflow_add-result-in-Found-look_both
+overflow_add-result-in-Found-look_both c =
     omega (
       arith,
-      run_most c.args.window.now (c.args.place + length c.args.part.now) c.known-from.result.0.now c.known-from.result.1.now c.known-from.ensures,
+      run_most c.args.window.now (c.args.place + length c.args.part.now) c.known_from.result.0.now c.known_from.result.1.now c.known_from.ensures,
       c.requires.fits (omega arith),
-      c.in-Found-look-both.ensures.among,
+      c.in-Found-look_both.ensures.among,
     )
 
-pub returns-in-Clean-look-both : goal.returns-in-Clean-look-both
-returns-in-Clean-look-both c ws t h e n a k =
+pub returns-in-Clean-look_both : goal.returns-in-Clean-look_both
+returns-in-Clean-look_both c ws t h e n a k =
     let j = c.in-Clean.ensures.finds ws t h e in
-    clean_known c.args.window.now ws t c.args.end c.args.place c.args.part.now c.known-from.result.0.now c.known-from.result.1.now n a k
-    c.if-place-end.false c.if-reach-end.false c.requires.within c.known-from.ensures c.in-Clean.next j
-    c.in-Clean-look-both.last (c.in-Clean-look-both.ensures.finds ws _ h j.1)
+    clean_known c.args.window.now ws t c.args.end c.args.place c.args.part.now c.known_from.result.0.now c.known_from.result.1.now n a k
+    c.if-place-end.false c.if-reach-end.false c.requires.within c.known_from.ensures c.in-Clean.next j
+    c.in-Clean-look_both.last (c.in-Clean-look_both.ensures.finds ws _ h j.1)
 
-pub returns-in-Found-look-both : goal.returns-in-Found-look-both
-returns-in-Found-look-both c ws t h e n a k =
+pub returns-in-Found-look_both : goal.returns-in-Found-look_both
+returns-in-Found-look_both c ws t h e n a k =
     let j = c.in-Clean.ensures.finds ws t h e in
-    found_known c.args.window.now ws t c.args.end c.args.place c.args.part.now c.known-from.result.0.now c.known-from.result.1.now n a k
-    c.if-place-end.false c.if-reach-end.false c.requires.within c.known-from.ensures c.in-Clean.next j
-    c.in-Found-look-both.i c.in-Found-look-both.word (c.in-Found-look-both.ensures.finds ws _ h j.1)
+    found_known c.args.window.now ws t c.args.end c.args.place c.args.part.now c.known_from.result.0.now c.known_from.result.1.now n a k
+    c.if-place-end.false c.if-reach-end.false c.requires.within c.known_from.ensures c.in-Clean.next j
+    c.in-Found-look_both.i c.in-Found-look_both.word (c.in-Found-look_both.ensures.finds ws _ h j.1)

@@ -15,22 +15,22 @@ loop-done-init c = (omega arith, λ ws t h e. judged_none ws t c.args.state e)
 pub returns-in-Found : goal.returns-in-Found
 returns-in-Found c =
     let f = knows c.args.window.now in
-    let n = front_most f c.args.place c.loop-done.done c.args.part.now _ c.overlaid-front-front.result.now c.loop-done.invariant.0 (between_to_end c.args.part.now c.loop-done.done (length c.args.part.now) (omega arith)) c.overlaid-front-front.ensures in
+    let n = front_most f c.args.place c.loop-done.done c.args.part.now _ c.overlaid_front-front.result.now c.loop-done.invariant.0 (between_to_end c.args.part.now c.loop-done.done (length c.args.part.now) (omega arith)) c.overlaid_front-front.ensures in
     record {
       among = omega (arith, c.in-Found.ensures.among);
       finds = λ ws t h e.
           let a = c.loop-done.invariant.1 ws t h e in
-          part_found f c.args.place c.loop-done.done c.args.part.now _ c.overlaid-front-front.result.now c.loop-done.invariant.0 (between_to_end c.args.part.now c.loop-done.done (length c.args.part.now) (omega arith)) c.overlaid-front-front.ensures
+          part_found f c.args.place c.loop-done.done c.args.part.now _ c.overlaid_front-front.result.now c.loop-done.invariant.0 (between_to_end c.args.part.now c.loop-done.done (length c.args.part.now) (omega arith)) c.overlaid_front-front.ensures
           ws t c.loop-done.reached c.in-Found.i c.in-Found.word a (c.in-Found.ensures.finds ws _ h a.1);
     }
 
 pub loop-done-preserved : goal.loop-done-preserved
 loop-done-preserved c =
     let f = knows c.args.window.now in (
-      front_most f c.args.place c.loop-done.done c.args.part.now _ c.overlaid-front-front.result.now c.loop-done.invariant.0 (between_to_end c.args.part.now c.loop-done.done (length c.args.part.now) (omega arith)) c.overlaid-front-front.ensures,
+      front_most f c.args.place c.loop-done.done c.args.part.now _ c.overlaid_front-front.result.now c.loop-done.invariant.0 (between_to_end c.args.part.now c.loop-done.done (length c.args.part.now) (omega arith)) c.overlaid_front-front.ensures,
       λ ws t h e.
           let a = c.loop-done.invariant.1 ws t h e in
-          part_more f c.args.place c.loop-done.done c.args.part.now _ c.overlaid-front-front.result.now c.loop-done.invariant.0 (between_to_end c.args.part.now c.loop-done.done (length c.args.part.now) (omega arith)) c.overlaid-front-front.ensures
+          part_more f c.args.place c.loop-done.done c.args.part.now _ c.overlaid_front-front.result.now c.loop-done.invariant.0 (between_to_end c.args.part.now c.loop-done.done (length c.args.part.now) (omega arith)) c.overlaid_front-front.ensures
           ws t c.loop-done.reached c.in-Clean.next a (c.in-Clean.ensures.finds ws _ h a.1),
     )
 

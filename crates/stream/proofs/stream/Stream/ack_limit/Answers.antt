@@ -11,4 +11,4 @@ returns c ws before ne st =
     let w = width c.args.self.now.window in
     let s = run w ws blank before in
     let fits = text_fits w ws s (promise w ws ne before).sound in
-    c.ack-limit.ensures.limit (omega (arith, st.end)) ∙ limit_shown ws s c.args.self.now st
+    c.ack_limit.ensures.limit (omega (arith, st.end)) ∙ limit_shown ws s c.args.self.now st

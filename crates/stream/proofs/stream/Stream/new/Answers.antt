@@ -6,5 +6,5 @@ use Rattle.stream.proofs.stream.Stream.new.Goals as goal
 pub returns : goal.returns
 unfolding run
 returns c =
-    let m = c.in-ok-window.ensures in
+    let m = c.in_ok-window.ensures in
     (m.0, m.1, ap (λ n. 2 ^ n) m.2, λ ws. blank_shown ws _ c.start.ensures m.3 m.4)

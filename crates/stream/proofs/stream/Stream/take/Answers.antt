@@ -18,7 +18,7 @@ use Rattle.stream.specs.declared.look.Looked.TheVariants as looked
 use Rattle.stream.proofs.Kept.{promise}
 use Rattle.stream.proofs.TakeLaws.{closed-outcome, empty-outcome, fin_kept, fin_none, looks, part_inside, passed-outcome, passed_shown, shut_shown, text_ends_lem, text_low, took, word-outcome}
 use Rattle.stream.proofs.stream.Stream.take.Goals as goal
-use Rattle.stream.proofs.stream.Stream.take.Goals.{then-fin, else-fin, else-start-end-via-then-start-end+else-is-none, else-start-end-via-else-start-end}
+use Rattle.stream.proofs.stream.Stream.take.Goals.{then-fin, else-fin, else-start-end-via-then-start-end+else-is_none, else-start-end-via-else-start-end}
 
 pub returns-then-self : goal.returns-then-self
 returns-then-self c = record {
@@ -31,8 +31,8 @@ returns-then-self c = record {
       (closed-outcome (width v.window) ws (run (width v.window) ws blank before) a (sym st.shut ∙ c.if-self.true)) st tt;
 }
 
-pub returns-then-is-none : goal.returns-then-is-none
-returns-then-is-none c = record {
+pub returns-then-is_none : goal.returns-then-is_none
+returns-then-is_none c = record {
   width = refl;
   left = refl;
   took = λ ws before ne tb st.
@@ -42,16 +42,16 @@ returns-then-is-none c = record {
       let so = (promise (width v.window) ws ne before).sound in
       let r = c.part-start.result in
       let pa = c.part-start.ensures in
-      let l = looks ws s v a r st so pa (looked.Clean c.in-Clean.text-end c.in-Clean.state) (c.in-Clean.ensures ws s.text tb st.state st.end (text_low ws s v a r st so pa) (text_ends_lem ws s v a r st so pa)) in
+      let l = looks ws s v a r st so pa (looked.Clean c.in-Clean.text_end c.in-Clean.state) (c.in-Clean.ensures ws s.text tb st.state st.end (text_low ws s v a r st so pa) (text_ends_lem ws s v a r st so pa)) in
       let ek : c.if-fin.kept ≡ fin_left (width v.window) s a = elim c.if-fin.branch [
         | then-fin w ↦
-            w.kept_is ∙ w.kept-fin-kept.ensures
+            w.kept-is ∙ w.kept_fin-kept.ensures
             ∙ ap (kept_if (fin_may_stand v.window.low (width v.window) v.marks.fin (knows v.window))) w.after.ensures ∙ fin_kept ws s v a r st so pa w.if-fin.true
-        | else-fin w ↦ w.kept_is ∙ fin_none ws s v a r st so pa w.if-fin.false
+        | else-fin w ↦ w.kept-is ∙ fin_none ws s v a r st so pa w.if-fin.false
       ] in
       took ws before a (width v.window) v c.args.payload.now Empty ne refl
-      (empty-outcome ws s v a r st so pa (sym st.shut ∙ c.if-self.false) c.in-Clean.text-end c.in-Clean.state l c.if-fin.kept ek
-      c.if-start-end.true c.if-is-none.ensures) st tt;
+      (empty-outcome ws s v a r st so pa (sym st.shut ∙ c.if-self.false) c.in-Clean.text_end c.in-Clean.state l c.if-fin.kept ek
+      c.if-start-end.true c.if-is_none.ensures) st tt;
 }
 
 pub returns-in-Word : goal.returns-in-Word
@@ -66,9 +66,9 @@ returns-in-Word c = record {
       let r = c.part-start.result in
       let pa = c.part-start.ensures in
       let l = looks ws s v a r st so pa (looked.Word c.in-Word.place c.in-Word.word) (c.in-Word.ensures ws s.text tb st.state st.end (text_low ws s v a r st so pa) (text_ends_lem ws s v a r st so pa)) in
-      took ws before a (width v.window) (record { window = v.window; marks = c.shut-down-self.result }) c.args.payload.now (Word c.in-Word.place c.in-Word.word) ne refl
+      took ws before a (width v.window) (record { window = v.window; marks = c.shut_down-self.result }) c.args.payload.now (Word c.in-Word.place c.in-Word.word) ne refl
       (word-outcome ws s v a r st so pa (sym st.shut ∙ c.if-self.false) c.in-Word.place c.in-Word.word l)
-      (shut_shown ws s v a r st so pa (record { window = v.window; marks = c.shut-down-self.result }) refl c.shut-down-self.ensures) tt;
+      (shut_shown ws s v a r st so pa (record { window = v.window; marks = c.shut_down-self.result }) refl c.shut_down-self.ensures) tt;
 }
 
 pub returns-else-start-end : goal.returns-else-start-end
@@ -91,24 +91,24 @@ returns-else-start-end c =
           let a : Segment = record { at = model_of c.args.at; bytes = payload; fin = c.args.fin } in
           let s = run (width v.window) ws blank before in
           let so = (promise (width v.window) ws ne before).sound in
-          let l = looks ws s v a r st so pa (looked.Clean c.in-Clean.text-end c.in-Clean.state)
+          let l = looks ws s v a r st so pa (looked.Clean c.in-Clean.text_end c.in-Clean.state)
           (c.in-Clean.ensures ws s.text tb st.state st.end (text_low ws s v a r st so pa) (text_ends_lem ws s v a r st so pa)) in
           let ek : c.if-fin.kept ≡ fin_left (width v.window) s a = elim c.if-fin.branch [
             | then-fin w ↦
-                w.kept_is ∙ w.kept-fin-kept.ensures
+                w.kept-is ∙ w.kept_fin-kept.ensures
                 ∙ ap (kept_if (fin_may_stand v.window.low (width v.window) v.marks.fin (knows v.window))) w.after.ensures ∙ fin_kept ws s v a r st so pa w.if-fin.true
-            | else-fin w ↦ w.kept_is ∙ fin_none ws s v a r st so pa w.if-fin.false
+            | else-fin w ↦ w.kept-is ∙ fin_none ws s v a r st so pa w.if-fin.false
           ] in
           let some : r.start ≡ r.end → is_some c.if-fin.kept ≡ true = λ e. elim c.else-start-end.branch [
-            | else-start-end-via-then-start-end+else-is-none w ↦ w.if-is-none.ensures
+            | else-start-end-via-then-start-end+else-is_none w ↦ w.if-is_none.ensures
             | else-start-end-via-else-start-end w ↦ absurd (w.if-start-end.false e)
           ] in
           let bytes = put_mid r.start (r.end - r.start) payload c.write.new.part in
           let v' : Value = record { window = c.write.new.self.window; marks = c.grown-self.result } in
           let is_open = sym st.shut ∙ c.if-self.false in
           took ws before a (width v.window) v' bytes (Passed r.start r.end r.place c.if-fin.kept) ne c.write.ensures.width
-          (passed-outcome ws s v a r st so pa is_open c.in-Clean.text-end c.in-Clean.state l c.if-fin.kept ek (between r.start r.end bytes)
+          (passed-outcome ws s v a r st so pa is_open c.in-Clean.text_end c.in-Clean.state l c.if-fin.kept ek (between r.start r.end bytes)
           (between-put_mid r.start (r.end - r.start) payload c.write.new.part r.end (omega (arith, pa.ordered, pa.ends)) n ∙ c.write.ensures.part) some)
-          (passed_shown ws s v a r st so pa is_open c.in-Clean.text-end c.in-Clean.state l c.if-fin.kept ek v' c.grown-self.ensures c.write.ensures.low c.write.ensures.width c.write.ensures.known)
+          (passed_shown ws s v a r st so pa is_open c.in-Clean.text_end c.in-Clean.state l c.if-fin.kept ek v' c.grown-self.ensures c.write.ensures.low c.write.ensures.width c.write.ensures.known)
           (part_inside ws s v a r st so pa);
     }
