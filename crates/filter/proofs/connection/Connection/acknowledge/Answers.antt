@@ -16,23 +16,23 @@ use Rattle.filter.proofs.AcknowledgeLaws.{acked_held, all_of, as_came_lem, is_lo
 use Rattle.filter.proofs.ForwardLaws.{low_fits, shown}
 use Rattle.filter.proofs.connection.Connection.acknowledge.Goals as goal
 
-pub returns-then-not-is-above : goal.returns-then-not-is-above
-returns-then-not-is-above c = record {
+pub returns-then-not-is_above : goal.returns-then-not-is_above
+returns-then-not-is_above c = record {
   left = (omega arith, omega arith, refl, refl);
   acknowledges = λ cf k m eq ne up h.
       let v = c.args.self.now in
       let old = c.args.packet.now in
       let sg = c.args.segment.now in
       let rd = c.requires in
-      let ep : model_of c.place-of-place.result ≡ acked_at m (packet old) =
-      c.place-of-place.ensures.within (rw c.marks.ensures (low_fits cf m v h ne)) ∙ ap (λ x. place_of v.first x.low sg.acknowledged) c.marks.ensures
+      let ep : model_of c.place_of-place.result ≡ acked_at m (packet old) =
+      c.place_of-place.ensures.within (rw c.marks.ensures (low_fits cf m v h ne)) ∙ ap (λ x. place_of v.first x.low sg.acknowledged) c.marks.ensures
       ∙ ap (λ f. place_of f v.stream.marks.low sg.acknowledged) h.first ∙ ap (λ l. place_of m.first l sg.acknowledged) (shown cf m v h).low
       ∙ ap (place_of m.first m.stream.low) rd.1.acknowledged in
-      let el = of_model cf m v h (λ (s : Stream). c.ack-limit-limit.result ≡ ack_limit s) (c.ack-limit-limit.ensures cf.words h.before ne h.stands) in
-      let no : above (acked_at m (packet old)) c.ack-limit-limit.result ≡ false = sym (ap (λ p. above p c.ack-limit-limit.result) ep) ∙ sym c.is-above.ensures ∙ c.if-not-is-above.true in (
+      let el = of_model cf m v h (λ (s : Stream). c.ack_limit-limit.result ≡ ack_limit s) (c.ack_limit-limit.ensures cf.words h.before ne h.stands) in
+      let no : above (acked_at m (packet old)) c.ack_limit-limit.result ≡ false = sym (ap (λ p. above p c.ack_limit-limit.result) ep) ∙ sym c.is_above.ensures ∙ c.if-not-is_above.true in (
         active cf.quiet (acknowledged_to (acked_at m (packet old)) m.stream) m,
-        ap (Update k (active cf.quiet (acknowledged_to (acked_at m (packet old)) m.stream) m) Outside) (as_came_lem m old (acked_at m (packet old)) c.ack-limit-limit.result el no ∙ sym (all_of old)),
-        acked_held cf m v h up c.acknowledge.new.self (model_of c.place-of-place.result) c.acknowledge.ensures.width
+        ap (Update k (active cf.quiet (acknowledged_to (acked_at m (packet old)) m.stream) m) Outside) (as_came_lem m old (acked_at m (packet old)) c.ack_limit-limit.result el no ∙ sym (all_of old)),
+        acked_held cf m v h up c.acknowledge.new.self (model_of c.place_of-place.result) c.acknowledge.ensures.width
             (c.acknowledge.ensures.took cf.words h.before ne h.stands) _ _ refl (sym (ap (λ p. acknowledged_to p m.stream) ep)) h.first h.opening h.last_ack (sym eq),
       );
 }
@@ -54,27 +54,27 @@ returns c =
       );
       acknowledges = λ cf k m eq ne up h.
           let v = c.args.self.now in
-          let limit = c.ack-limit-limit.result in
-          let ep : model_of c.place-of-place.result ≡ acked_at m (packet old) =
-          c.place-of-place.ensures.within (rw c.marks.ensures (low_fits cf m v h ne)) ∙ ap (λ x. place_of v.first x.low sg.acknowledged) c.marks.ensures
+          let limit = c.ack_limit-limit.result in
+          let ep : model_of c.place_of-place.result ≡ acked_at m (packet old) =
+          c.place_of-place.ensures.within (rw c.marks.ensures (low_fits cf m v h ne)) ∙ ap (λ x. place_of v.first x.low sg.acknowledged) c.marks.ensures
           ∙ ap (λ f. place_of f v.stream.marks.low sg.acknowledged) h.first ∙ ap (λ l. place_of m.first l sg.acknowledged) (shown cf m v h).low
           ∙ ap (place_of m.first m.stream.low) rd.1.acknowledged in
-          let el = of_model cf m v h (λ (s : Stream). limit ≡ ack_limit s) (c.ack-limit-limit.ensures cf.words h.before ne h.stands) in
-          let yes : above (acked_at m (packet old)) limit ≡ true = sym (ap (λ p. above p limit) ep) ∙ sym c.is-above.ensures ∙ c.if-not-is-above.false in
+          let el = of_model cf m v h (λ (s : Stream). limit ≡ ack_limit s) (c.ack_limit-limit.ensures cf.words h.before ne h.stands) in
+          let yes : above (acked_at m (packet old)) limit ≡ true = sym (ap (λ p. above p limit) ep) ∙ sym c.is_above.ensures ∙ c.if-not-is_above.false in
           let k0 = c.none-edit.ensures in
           let payload : between c.none-edit.result.start c.none-edit.result.end old ≡ (packet old).payload =
           ap (λ j. between c.none-edit.result.start j old) k0.end ∙ between_to_end old c.none-edit.result.start (length old) (omega arith)
           ∙ ap (λ i. drop i old) (k0.start ∙ rd.1.payload) in
           let out : between c.rewrite.result.0 c.rewrite.result.1 c.rewrite.new.packet ≡ lowered m (packet old) (acked_at m (packet old)) =
           c.rewrite.ensures.out old rd.0 (c.none.ensures.nothing old)
-          ∙ ap (λ x. rewrite (packet old) x c.number-of.result c.none-edit.result.marks (between c.none-edit.result.start c.none-edit.result.end old)) (k0.number ∙ rd.1.number)
-          ∙ ap (λ x. rewrite (packet old) (packet old).number x c.none-edit.result.marks (between c.none-edit.result.start c.none-edit.result.end old)) (c.number-of.ensures ∙ ap (λ f. number_of f limit) h.first)
+          ∙ ap (λ x. rewrite (packet old) x c.number_of.result c.none-edit.result.marks (between c.none-edit.result.start c.none-edit.result.end old)) (k0.number ∙ rd.1.number)
+          ∙ ap (λ x. rewrite (packet old) (packet old).number x c.none-edit.result.marks (between c.none-edit.result.start c.none-edit.result.end old)) (c.number_of.ensures ∙ ap (λ f. number_of f limit) h.first)
           ∙ ap (λ x. rewrite (packet old) (packet old).number (number_of m.first limit) x (between c.none-edit.result.start c.none-edit.result.end old)) (k0.marks ∙ rd.1.marks)
           ∙ ap (rewrite (packet old) (packet old).number (number_of m.first limit) (packet old).marks) payload
           ∙ sym (is_lowered m old (acked_at m (packet old)) limit el yes) in (
             active cf.quiet (acknowledged_to (acked_at m (packet old)) m.stream) m,
             ap (Update k (active cf.quiet (acknowledged_to (acked_at m (packet old)) m.stream) m) Outside) (sym out),
-            acked_held cf m v h up c.acknowledge.new.self (model_of c.place-of-place.result) c.acknowledge.ensures.width
+            acked_held cf m v h up c.acknowledge.new.self (model_of c.place_of-place.result) c.acknowledge.ensures.width
                 (c.acknowledge.ensures.took cf.words h.before ne h.stands) _ _ refl (sym (ap (λ p. acknowledged_to p m.stream) ep)) h.first h.opening h.last_ack (sym eq),
           );
     }

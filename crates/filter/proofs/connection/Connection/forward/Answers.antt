@@ -45,8 +45,8 @@ returns-in-Err c =
     record {
       left = err_left old rest sg.payload l n v.first sg refl c.take-taken.result c.take-taken.ensures.left c.in-Err.verdict c.in-Err.ensures;
       handles = λ cf k m eq ne tb h.
-          let ea = c.place-of-at.ensures.within (rw c.marks.ensures (low_fits cf m v h ne)) ∙ ap (λ x. place_of v.first x.low sg.number) c.marks.ensures in
-          handles_err cf m v h old sg c.place-of-at.result ne rd ea c.take-taken.new.self rest c.take-taken.result c.take-taken.ensures.width
+          let ea = c.place_of-at.ensures.within (rw c.marks.ensures (low_fits cf m v h ne)) ∙ ap (λ x. place_of v.first x.low sg.number) c.marks.ensures in
+          handles_err cf m v h old sg c.place_of-at.result ne rd ea c.take-taken.new.self rest c.take-taken.result c.take-taken.ensures.width
           (c.take-taken.ensures.took cf.words h.before ne tb h.stands) k _ c.in-Err.verdict _ c.in-Err.ensures refl refl refl refl refl;
     }
 
@@ -64,10 +64,10 @@ returns-after-segment c =
       left = pass_left old rest sg.payload l n v.first sg refl c.take-taken.result c.take-taken.ensures.left least rd.1.payload c.in-Ok.edit c.in-Ok.ensures
           c.rewrite-start.new.packet c.rewrite-start.result.0 c.rewrite-start.result.1 c.rewrite-start.ensures.rest;
       handles = λ cf k m eq ne tb h.
-          let ea = c.place-of-at.ensures.within (rw c.marks.ensures (low_fits cf m v h ne)) ∙ ap (λ x. place_of v.first x.low sg.number) c.marks.ensures in
+          let ea = c.place_of-at.ensures.within (rw c.marks.ensures (low_fits cf m v h ne)) ∙ ap (λ x. place_of v.first x.low sg.number) c.marks.ensures in
           let took = c.take-taken.ensures.took cf.words h.before ne tb h.stands in
-          let over = patched cf m v h old sg c.place-of-at.result ne rd ea c.take-taken.new.self rest c.take-taken.result c.take-taken.ensures.width took
-          c.differs.result (differs_model cf m v h old sg c.place-of-at.result ne rd ea c.differs.result (c.differs.ensures cf.words h.before ne h.stands))
+          let over = patched cf m v h old sg c.place_of-at.result ne rd ea c.take-taken.new.self rest c.take-taken.result c.take-taken.ensures.width took
+          c.differs.result (differs_model cf m v h old sg c.place_of-at.result ne rd ea c.differs.result (c.differs.ensures cf.words h.before ne h.stands))
           c.take-taken.ensures.left c.in-Ok.edit c.in-Ok.ensures c.if-differs.patch
           (λ b. elim c.if-differs.branch [
             | then-differs w ↦ rw w.patch-is w.before-patch.ensures
@@ -77,7 +77,7 @@ returns-after-segment c =
             | then-differs w ↦ absurd (both_ways _ b w.if-differs.true)
             | else-differs w ↦ rw w.patch-is w.none-patch.ensures.nothing
           ]) l n in
-          handles_pass cf m v h old sg c.place-of-at.result ne rd ea c.take-taken.new.self rest c.take-taken.result c.take-taken.ensures.width took
+          handles_pass cf m v h old sg c.place_of-at.result ne rd ea c.take-taken.new.self rest c.take-taken.result c.take-taken.ensures.width took
           k _ c.rewrite-start.new.packet c.rewrite-start.result.0 c.rewrite-start.result.1 c.in-Ok.edit c.if-segment.self c.take-taken.auto.payload
           (c.rewrite-start.ensures.out old rd.0 over) (part_new old rest sg.payload l n)
           (elim c.if-segment.branch [ then-segment w ↦ ap (λ x. x.stream) w.self-is | else-segment w ↦ ap (λ x. x.stream) w.self-is ])
