@@ -7,6 +7,7 @@ use filter::Side;
 use frames::{Config, ConfigError, Fault, Input, Item, Refusal};
 use std::alloc::AllocError;
 use std::io::Read;
+use std::process::ExitCode;
 use std::{env, io};
 
 const USAGE: &str = "usage: gate < INPUT
@@ -119,10 +120,9 @@ fn run(rt: &HostRuntime) -> Result<(), Stop> {
     }
 }
 
-fn main(rt: HostRuntime) -> Result<(), Stop> {
-    let done = run(&rt);
-    match &done {
-        Ok(()) => {}
+fn main(rt: HostRuntime) -> io::Result<ExitCode> {
+    match run(&rt) {
+        Ok(()) => return Ok(ExitCode::SUCCESS),
         Err(Stop::Usage) => eprint!(rt; "{USAGE}")?,
         Err(Stop::Fault(fault)) => {
             let number = fault.refusal.number();
@@ -131,5 +131,5 @@ fn main(rt: HostRuntime) -> Result<(), Stop> {
         }
         Err(Stop::Failed(e)) => eprintln!(rt; "gate: {e}")?,
     }
-    done
+    Ok(ExitCode::FAILURE)
 }

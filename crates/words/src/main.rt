@@ -7,6 +7,7 @@ ghost use Rattle.automaton.specs.Lists.{refusal_number};
 use automaton::{ListError, ListFault, ListRefusal, Table, WordList};
 use std::alloc::{AllocError, Global};
 use std::io::Read;
+use std::process::ExitCode;
 use std::{env, io};
 
 const USAGE: &str = "usage: words < LIST
@@ -192,13 +193,12 @@ fn run(rt: &HostRuntime) -> Result<(), Stop> {
     }
 }
 
-fn main(rt: HostRuntime) -> Result<(), Stop> {
-    let done = run(&rt);
-    match &done {
-        Ok(()) => {}
+fn main(rt: HostRuntime) -> io::Result<ExitCode> {
+    match run(&rt) {
+        Ok(()) => return Ok(ExitCode::SUCCESS),
         Err(Stop::Usage) => eprint!(rt; "{USAGE}")?,
         Err(Stop::Fault(number, at)) => eprintln!(rt; "words: fault {number} at byte {at}")?,
         Err(Stop::Failed(e)) => eprintln!(rt; "words: {e}")?,
     }
-    done
+    Ok(ExitCode::FAILURE)
 }

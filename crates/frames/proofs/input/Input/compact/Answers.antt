@@ -7,9 +7,9 @@ returns-then-start-gt0 c =
     let i = c.args.self.now in
     record {
       same = record {
-        left = rw c.copy-within.ensures.items (moved_part (vec_items i.buffer) i.start i.end i.forward i.within);
+        left = rw c.copy_within.ensures.items (moved_part (vec_items i.buffer) i.start i.end i.forward i.within);
         offset = refl;
-        size = omega (arith, c.copy-within.ensures.len, c.copy-within.new.self.ok.0, i.buffer.ok.0);
+        size = omega (arith, c.copy_within.ensures.len, c.copy_within.new.self.ok.0, i.buffer.ok.0);
       };
       front = refl;
     }

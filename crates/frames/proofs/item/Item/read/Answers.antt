@@ -4,16 +4,16 @@ use Rattle.frames.specs.Items.{item}
 use Rattle.frames.proofs.ItemLaws.{reads_packet, reads_ticks}
 use Rattle.frames.proofs.item.Item.read.Goals as goal
 
-pub returns-in-default : goal.returns-in-default
+pub returns-in_default : goal.returns-in_default
 unfolding item
-returns-in-default c = grind (arith, nat_tests)
+returns-in_default c = grind (arith, nat_tests)
 
 pub returns-in-1 : goal.returns-in-1
-returns-in-1 c = reads_packet c.args.bytes.now c.read-packet.result c.in-1.is c.read-packet.ensures
+returns-in-1 c = reads_packet c.args.bytes.now c.read_packet.result c.in-1.is c.read_packet.ensures
 
 pub returns-in-2 : goal.returns-in-2
-returns-in-2 c = reads_ticks c.args.bytes.now c.read-ticks.result c.in-2.is c.read-ticks.ensures
+returns-in-2 c = reads_ticks c.args.bytes.now c.read_ticks.result c.in-2.is c.read_ticks.ensures
 
-pub returns-in-default-kind : goal.returns-in-default-kind
+pub returns-in_default-kind : goal.returns-in_default-kind
 unfolding item
-returns-in-default-kind c = grind (arith, nat_tests)
+returns-in_default-kind c = grind (arith, nat_tests)
