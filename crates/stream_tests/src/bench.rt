@@ -1,7 +1,8 @@
 // A stream to try segments on.
 use automaton::{Table, WordList};
 use sequence::Place;
-use std::test::*;
+use std::process::Abort;
+use std::test::Fail;
 use stream::{Stream, Taken};
 
 #[derive(Drop)]
@@ -9,6 +10,8 @@ pub struct Bench {
     pub table: Table,
     // its window has 1,024 places
     pub stream: Stream,
+    // which of many cases is tried, told where one fails
+    pub case: usize,
 }
 
 impl Bench {
@@ -16,7 +19,11 @@ impl Bench {
         let (list, _) = WordList::read(rt.alloc(), words)?;
         let table = Table::build(rt.alloc(), &list)?;
         match Stream::new(rt.alloc(), 10) {
-            Ok(stream) => Ok(Bench { table, stream }),
+            Ok(stream) => Ok(Bench {
+                table,
+                stream,
+                case: 0,
+            }),
             Err(_) => Err(Fail::new("no stream")),
         }
     }
@@ -24,23 +31,28 @@ impl Bench {
     // A segment comes: the answer, and the lent bytes then, are these.
     pub fn sends<const N: usize>(
         &mut self,
+        rt: &impl Abort,
         at: Place,
         came: [u8; N],
         fin: bool,
         answer: Taken,
         left: [u8; N],
-    ) -> Result<(), Fail> {
+    ) {
+        let case = self.case;
         let mut bytes = came;
-        assert_eq!(self.stream.take(&self.table, at, &mut bytes, fin), answer);
-        assert_eq!(bytes, left);
-        Ok(())
+        assert_eq!(rt;
+            self.stream.take(&self.table, at, &mut bytes, fin),
+            answer,
+            "case {case}"
+        );
+        assert_eq!(rt; bytes, left, "case {case}");
     }
 
     // The end of the text, and up to where the receiver may acknowledge.
-    pub fn reaches(&self, end: u64, limit: u64) -> Result<(), Fail> {
-        assert_eq!(self.stream.marks().end, end);
-        assert_eq!(self.stream.ack_limit(), limit);
-        Ok(())
+    pub fn reaches(&self, rt: &impl Abort, end: u64, limit: u64) {
+        let case = self.case;
+        assert_eq!(rt; self.stream.marks().end, end, "case {case}");
+        assert_eq!(rt; self.stream.ack_limit(), limit, "case {case}");
     }
 }
 

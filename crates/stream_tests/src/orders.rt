@@ -2,7 +2,7 @@
 use crate::bench::{Bench, passed, word_at};
 use sequence::Place;
 use std::process::Abort;
-use std::test::*;
+use std::test::Fail;
 
 // Overlapping pieces of the text `abcdefghi`, each of three bytes.
 const PIECES: [(u64, [u8; 3]); 4] = [(0, *b"abc"), (2, *b"cde"), (4, *b"efg"), (6, *b"ghi")];
@@ -20,13 +20,9 @@ fn end_of(came: &[bool; 4]) -> u64 {
 }
 
 // Four pieces, chosen by the digits of a number to the base 4. With all of them the text holds a word, if there is one.
-fn try_order(
-    rt: &impl Abort,
-    bench: &mut Bench,
-    order: usize,
-    word: Option<u64>,
-) -> Result<(), Fail> {
+fn try_order(rt: &impl Abort, bench: &mut Bench, order: usize, word: Option<u64>) {
     bench.stream.clear();
+    bench.case = order;
     let mut came = [false; 4];
     let mut rest = order;
     for _ in 0..4 {
@@ -37,17 +33,23 @@ fn try_order(
         rest /= 4;
         match word {
             Some(found) if after > found => {
-                bench.sends(Place::At(place), bytes, false, word_at(found, 0), bytes)?;
-                assert!(rt; bench.stream.marks().shut);
-                bench.reaches(before, before)?;
+                bench.sends(rt, Place::At(place), bytes, false, word_at(found, 0), bytes);
+                assert!(rt; bench.stream.marks().shut, "case {order}");
+                bench.reaches(rt, before, before);
             }
             _ => {
-                bench.sends(Place::At(place), bytes, false, passed(0, 3, place), bytes)?;
-                bench.reaches(after, after)?;
+                bench.sends(
+                    rt,
+                    Place::At(place),
+                    bytes,
+                    false,
+                    passed(0, 3, place),
+                    bytes,
+                );
+                bench.reaches(rt, after, after);
             }
         }
     }
-    Ok(())
 }
 
 // All of them, with pieces that come twice and such as never come.
@@ -56,8 +58,8 @@ fn any_order(rt: HostRuntime) -> Result<(), Fail> {
     let mut clean = Bench::new(&rt, b"\x01\x02zz")?;
     let mut wordy = Bench::new(&rt, b"\x01\x03fgh")?;
     for order in 0..256 {
-        try_order(&rt, &mut clean, order, None).note(format_args!("order {order}"))?;
-        try_order(&rt, &mut wordy, order, Some(7)).note(format_args!("order {order}"))?;
+        try_order(&rt, &mut clean, order, None);
+        try_order(&rt, &mut wordy, order, Some(7));
     }
     Ok(())
 }

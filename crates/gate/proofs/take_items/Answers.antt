@@ -1,7 +1,7 @@
 use Rattle.frames.proofs.TakeLaws.{lent_within}
 use Rattle.gate.proofs.take_items.Goals as goal
 
-pub invariant-of-input : goal.invariant-of-input
-invariant-of-input c =
-    let i = c.next-item.new.self in
-    (i.forward, (lent_within i c.deref-mut.result.now c.take-packet.new.buffer c.deref-mut.ensures.value c.take-packet.auto.buffer, tt))
+pub invariant_of-input : goal.invariant_of-input
+invariant_of-input c =
+    let i = c.next_item.new.self in
+    record { forward = i.forward; within = lent_within i c.deref_mut.result.now c.take_packet.new.buffer c.deref_mut.ensures.value c.take_packet.auto.buffer }
