@@ -1,8 +1,8 @@
 -- Looks at bytes that come in several parts.
 -- Assumes nothing.
-use Rattle.std.proofs.Common.{◌≡◌, ℕ, ◌+◌, ◌<◌, List, [], ◌∷◌, ◌++◌, length, get_or, Some, None, Option, sym, ap, ◌∙◌, subst, append_assoc, add_assoc, arith}
+use Rattle.std.proofs.Common.{◌≡◌, ℕ, ◌+◌, List, [], ◌∷◌, ◌++◌, length, get_or, Some, None, Option, sym, ap, ◌∙◌, append_assoc, arith}
 use Rattle.std.proofs.lemmas.List.{append-nil, length-append}
-use Rattle.automaton.specs.Look.{Found, last_word, look, or_found}
+use Rattle.automaton.specs.Look.{last_word, look, or_found}
 use Rattle.automaton.specs.Scanned.{Judged}
 use Rattle.automaton.specs.States.{run}
 use Rattle.automaton.specs.Text.{Text}

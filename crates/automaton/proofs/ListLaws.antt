@@ -1,15 +1,15 @@
 -- Word lists are read back as they are written, and more bytes change no answer.
 -- Assumes nothing.
-use Rattle.std.proofs.Common.{◌≡◌, ℕ, zero, suc, ◌+◌, ◌-◌, ◌<◌, ◌≤◌, Bool, true, false, cond, not, ◌&&◌, ◌||◌, ltb, List, [], ◌∷◌, ◌++◌, length, get_or, take, drop, Some, None, Ok, Err, Option, Result, sym, refl, ap, ◌∙◌, subst, inl, inr, append_assoc, arith, take-add}
-use Rattle.std.proofs.lemmas.List.{length-append, get_or_append_left, get_or-append_right, take-append-le, drop-append-le, append-nil, length-drop, take_more, take_all, get_or_at, drop_at}
+use Rattle.std.proofs.Common.{◌≡◌, ℕ, zero, suc, ◌+◌, ◌<◌, ◌≤◌, true, false, ◌||◌, ltb, List, [], ◌∷◌, ◌++◌, length, get_or, take, drop, Some, None, Ok, Err, Option, Result, sym, refl, ap, ◌∙◌, subst, inl, inr, append_assoc, arith, take-add}
+use Rattle.std.proofs.lemmas.List.{length-append, get_or_append_left, take-append-le, drop-append-le, append-nil, length-drop, take_more, take_all, get_or_at, drop_at}
 use Rattle.std.proofs.lemmas.Bool.{cases_lt, cond-false, cond-true, le-ltb, lt-ltb}
 use Rattle.std.proofs.lemmas.Bool.Decides.{nat_tests}
 use Rattle.automaton.specs.Text.{Text, member, same}
-use Rattle.automaton.specs.Lists.{ReadList, ReadsBack, ReadsOn, ReadsValid, Stands, Valid, Whole, distinct, fault_or, read_words, refusal_at, total, word, word_list, written, written_words}
+use Rattle.automaton.specs.Lists.{ReadList, ReadsBack, ReadsOn, ReadsValid, Valid, Whole, distinct, fault_or, read_words, refusal_at, total, word, word_list, written, written_words}
 use Rattle.automaton.specs.declared.fault.ListFault.{ListFault}
 use Rattle.automaton.specs.declared.fault.ListRefusal.{ListRefusal}
-use Rattle.automaton.specs.declared.fault.ListRefusal.TheVariants.{Cut, TooMuch, Twice}
-use Rattle.automaton.proofs.ReadLaws.{Fine, fine, Reading, reading_all, length-word, same_swap, total_push, valid_none, valid_more, size_more}
+use Rattle.automaton.specs.declared.fault.ListRefusal.TheVariants.{Cut}
+use Rattle.automaton.proofs.ReadLaws.{Fine, fine, length-word, same_swap, total_push, valid_none, valid_more, size_more}
 use Rattle.automaton.proofs.States.{member-append}
 
 -- what stands at a word's length is the same where more bytes follow

@@ -1,13 +1,12 @@
 -- What a loom acknowledges is handled as decided.
 -- Assumes nothing.
-use Rattle.std.proofs.Common.{◌≡◌, ℕ, ◌-◌, ◌<◌, ◌≤◌, true, false, ltb, leb, List, [], ◌∷◌, ◌++◌, length, take, drop, Ok, sym, refl, ap, ◌∙◌, subst, arith}
+use Rattle.std.proofs.Common.{◌≡◌, ℕ, ◌-◌, true, false, leb, [], ◌∷◌, ◌++◌, length, take, sym, refl, ap, ◌∙◌, subst, arith}
 use Rattle.std.specs.List.{between}
 use Rattle.std.proofs.lemmas.List.{take_all}
 use Rattle.std.proofs.lemmas.Bool.{cond-false, cond-true, le-leb, lt-leb, ltb-false, ltb-true}
-use Rattle.automaton.specs.Text.{nonempty}
 use Rattle.packet.specs.Bytes.{Bytes}
 use Rattle.packet.specs.Packet.{packet, rewrite}
-use Rattle.sequence.specs.Places.{At, Below, Place, number_of, place_of}
+use Rattle.sequence.specs.Places.{At, Below, Place, number_of}
 use Rattle.window.specs.Window.{width}
 use Rattle.stream.specs.Shown.{Stands}
 use Rattle.stream.specs.Steps.{Acked, run, step}

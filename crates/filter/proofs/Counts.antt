@@ -11,7 +11,6 @@ use Rattle.filter.specs.Verdict.{Event, Comes, Verdict, apply, answer_of, refusa
 use Rattle.filter.specs.Decide.{next, verdict}
 use Rattle.filter.specs.Promise.{begins_by, Goes, OfStream, segment_of, segment_read, arrival, arrives, ack_of, Counts}
 use Rattle.filter.proofs.Keys.{same_key_lem, held_same, put_same, put_cases, remove_gone}
-use Rattle.filter.proofs.Decided
 use Rattle.filter.proofs.Decided.{Decided, decided, sender_of, loom_of}
 
 some-none : {n : ℕ} → ◌≡◌ {A = Option ℕ} (Some n) None → ⊥

@@ -7,7 +7,6 @@ use Rattle.filter.specs.Gate.{Gate, among, only, empty}
 use Rattle.filter.specs.Verdict.{Event, Verdict, apply}
 use Rattle.filter.specs.Decide.{next, run, verdict}
 use Rattle.filter.specs.Promise.{Distinct}
-use Rattle.filter.proofs.Decided
 use Rattle.filter.proofs.Decided.{Decided, decided, sender_of, loom_of}
 
 -- at most 256, each once

@@ -1,15 +1,14 @@
 -- A sender's segment goes on as decided.
 -- Assumes nothing.
-use Rattle.std.proofs.Common.{◌≡◌, ℕ, ◌+◌, ◌-◌, ◌*◌, ◌/◌, ◌<◌, ◌≤◌, Bool, true, false, cond, not, ltb, ◌⊎◌, List, [], ◌∷◌, ◌++◌, length, get_or, take, drop, is_some, Some, None, Ok, Err, Option, Result, sym, refl, ap, ◌∙◌, subst, inl, inr, arith, take-add}
+use Rattle.std.proofs.Common.{◌≡◌, ℕ, ◌+◌, ◌-◌, ◌*◌, ◌/◌, ◌≤◌, Bool, true, false, cond, ltb, ◌⊎◌, [], ◌∷◌, ◌++◌, length, take, drop, is_some, Some, None, Ok, Err, Option, Result, sym, refl, ap, ◌∙◌, subst, inl, inr, arith, take-add}
 use borrow.Rule.Slice.PartMut.{put_mid, post_of}
 use Rattle.std.specs.List.{between}
 use Rattle.std.proofs.lemmas.List.{append-nil, drop_all, drop_at, drop-drop, length-append, length-drop, length-take, take-append-drop, take-take}
 use Rattle.std.proofs.lemmas.Slice.{between_to_end, take-put_mid_below}
 use Rattle.std.proofs.lemmas.List.Edits.{length-between}
 use Rattle.std.proofs.lemmas.Bool.{cases_Bool, cond-false, cond-true, le-ltb, lt-ltb}
-use Rattle.std.proofs.lemmas.Bool.Decides.{nat_tests}
-use Rattle.packet.specs.Bytes.{Bytes, byte, same}
-use Rattle.packet.specs.Packet.{head_length, packet, read, rewrite}
+use Rattle.packet.specs.Bytes.{Bytes, byte}
+use Rattle.packet.specs.Packet.{head_length, packet, rewrite}
 use Rattle.packet.specs.declared.edit.Edit.{Edit}
 use Rattle.packet.specs.Reads.{Reads}
 use Rattle.packet.specs.Rewrites.{Before, Moved, Overwritten, Whole, Within}
@@ -17,7 +16,7 @@ use Rattle.packet.specs.declared.edit.Patch.{Patch}
 use Rattle.packet.specs.declared.segment.Segment.{Segment as Seg}
 use Rattle.packet.proofs.BytesLaws.{byte-front}
 use Rattle.packet.proofs.PatchLaws.{overwritten}
-use Rattle.automaton.specs.Text.{Text, nonempty}
+use Rattle.automaton.specs.Text.{nonempty}
 use Rattle.sequence.specs.Model.{model_of}
 use Rattle.sequence.specs.Places.{number_of, place_of}
 use Rattle.sequence.specs.declared.Place.{Place as Where}

@@ -20,7 +20,6 @@ use Rattle.filter.specs.Verdict.{Event, Comes, Ticks, Verdict, Refuse, Forward, 
 use Rattle.filter.specs.Decide.{reset_to_loom, reset_to_sender, syn_alone, from_outside, same_beginning, from_loom, opens_with_bytes, on_read, answer, verdict}
 use Rattle.filter.specs.Promise.{stream_of, segment_of, begins_by, Begins, Beginning, Ending, by_reset, by_quiet, Short, AsCame, OfStream, OfOther, CrossesBy, NothingElse, ShutForWord, Handled}
 use Rattle.filter.proofs.Keys.{same_key_lem, held_same, put_keeps, put_found, put_other, among-only, only_gone, remove_gone, remove_other}
-use Rattle.filter.proofs.Decided
 use Rattle.filter.proofs.Decided.{Decided, decided, as_came_lem, sender_crosses, Opens, sender_of, loom_of, seg_in, outcome_in}
 use Rattle.filter.proofs.Sent.{fin_parts, left_sent}
 

@@ -1,5 +1,5 @@
 -- How a sender's segment goes on. Assumes nothing.
-use Rattle.std.specs.Prelude.{◌≡◌, ℕ, ◌+◌, ◌*◌, ◌/◌, ◌≤◌, Bool, true, false, cond, is_some, Some, None, Ok, Err, Option, Result, nat_lt}
+use Rattle.std.specs.Prelude.{◌≡◌, ℕ, ◌+◌, ◌*◌, ◌/◌, ◌≤◌, cond, is_some, Some, None, Ok, Err, Option, Result, nat_lt}
 use Rattle.packet.specs.declared.edit.Edit.{Edit}
 use Rattle.packet.specs.declared.segment.Segment.{Segment}
 use Rattle.sequence.specs.Places.{number_of}

@@ -1,11 +1,11 @@
 -- What more bytes make of an item and of a header. Assumes nothing.
-use Rattle.std.proofs.Common.{◌≡◌, ℕ, ◌+◌, ◌-◌, ◌<◌, ◌≤◌, ◌⊎◌, ◌++◌, length, take, drop, Ok, Err, sym, ap, ◌∙◌, inl, inr, arith}
+use Rattle.std.proofs.Common.{◌≡◌, ℕ, ◌+◌, ◌<◌, ◌≤◌, ◌⊎◌, ◌++◌, length, take, drop, Ok, Err, sym, ap, ◌∙◌, inl, inr, arith}
 use Rattle.std.proofs.lemmas.List.{length-append, length-drop, get_or_append_left, take-append-le, drop-append-le}
 use Rattle.std.proofs.lemmas.Bool.{cases_eq, cases_lt}
 use Rattle.std.proofs.lemmas.Bool.Decides.{nat_tests}
 use Rattle.packet.specs.Bytes.{Bytes, byte, read16, read32}
 use Rattle.filter.specs.Verdict.{Comes, Ticks}
-use Rattle.frames.specs.Items.{ReadEvent, header, item, packet_item, side_of, ticks_item}
+use Rattle.frames.specs.Items.{ReadEvent, item, packet_item, side_of, ticks_item}
 use Rattle.frames.specs.declared.fault.Refusal.TheVariants.{Cut, Bad}
 
 abbrev pub packet_of : Bytes → ReadEvent

@@ -1,11 +1,11 @@
 -- Reading the whole input, event by event and block by block. Assumes nothing.
-use Rattle.std.proofs.Common.{◌≡◌, ℕ, zero, suc, ◌+◌, ◌-◌, ◌^◌, ◌<◌, ◌≤◌, List, [], ◌∷◌, ◌++◌, length, drop, Some, None, Ok, Err, Result, sym, refl, ap, ◌∙◌, subst, arith}
+use Rattle.std.proofs.Common.{◌≡◌, ℕ, zero, suc, ◌+◌, ◌^◌, ◌<◌, ◌≤◌, List, [], ◌∷◌, ◌++◌, length, drop, Some, None, Ok, Err, Result, sym, refl, ap, ◌∙◌, subst, arith}
 use Rattle.std.proofs.lemmas.List.{append-nil, append_assoc, length-append, length-drop, drop_at, drop-append-le}
 use Rattle.packet.specs.Bytes.{Bytes}
 use Rattle.filter.specs.Verdict.{Event}
 use Rattle.frames.specs.Items.{ReadEvent, item}
 use Rattle.frames.specs.Configs.{configuration}
-use Rattle.frames.specs.Whole.{arrives, breaks, comes, ends, fails, lacks, opens, reads, stops, AllFit, BlocksRead, Events, Opens, Reading, ReadsBack, SettledConfig, SettledItem, Takes, and_then, faulty, nothing, onwards, read_all, read_events, taken_of, with_events, written_config, written_event, written_events}
+use Rattle.frames.specs.Whole.{arrives, breaks, comes, ends, fails, lacks, opens, reads, stops, AllFit, BlocksRead, Events, Opens, Reading, ReadsBack, SettledConfig, SettledItem, Takes, and_then, faulty, onwards, read_all, read_events, taken_of, with_events, written_config, written_event, written_events}
 use Rattle.frames.specs.declared.fault.Refusal.{Refusal}
 use Rattle.frames.specs.declared.fault.Refusal.TheVariants.{Cut}
 use Rattle.frames.proofs.Fates.{open_still, lost, done, fate, item-none}

@@ -1,9 +1,9 @@
 -- What of the headers stays when a packet is rewritten.
 -- Assumes nothing.
-use Rattle.std.proofs.Common.{◌≡◌, ℕ, ◌+◌, ◌<◌, ◌⊎◌, ◌++◌, length, take, set, refl, ap, ◌∙◌, inl, inr, ⊎_elim, arith}
+use Rattle.std.proofs.Common.{◌≡◌, ℕ, ◌+◌, ◌<◌, ◌⊎◌, ◌++◌, length, take, refl, ◌∙◌, inl, inr, ⊎_elim, arith}
 use Rattle.std.proofs.lemmas.List.{length-set, length-take-le, get_or-set_other, get_or_append_left, get_or-take}
 use Rattle.std.proofs.lemmas.Bool.{cond_both}
-use Rattle.packet.specs.Bytes.{Bytes, byte, same, write16, write32}
+use Rattle.packet.specs.Bytes.{Bytes, byte, same, write16}
 use Rattle.packet.specs.Packet.{head_length, packet, seal, edit, rewrite}
 use Rattle.packet.specs.Header.{Untouched, RewriteKeeps}
 use Rattle.packet.proofs.BytesLaws.{length-write16, length-write32, write16_other, write32_other}

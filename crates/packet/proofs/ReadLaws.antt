@@ -1,6 +1,6 @@
 -- What the tests of reading say of a packet. Assumes nothing.
-use Rattle.std.proofs.Common.{◌≡◌, ℕ, ◌+◌, ◌-◌, ◌*◌, ◌/◌, ◌%◌, ◌<◌, ◌≤◌, true, false, not, ◌&&◌, ◌||◌, eqb, leb, length, Some, None, Ok, Err, Result, sym, refl, ◌∙◌, inl, inr, arith}
-use Rattle.std.proofs.lemmas.Bool.{cases_Bool, cond_both, cond-false, cond-true, and_from, and_parts, and_right, or_from, or_parts, eq-eqb, eqb-true, le-leb, le-ltb, leb-true, ltb-false, not-false, not_from_true}
+use Rattle.std.proofs.Common.{◌≡◌, ℕ, ◌-◌, ◌/◌, ◌%◌, ◌≤◌, true, false, not, ◌&&◌, ◌||◌, eqb, leb, length, Some, None, Ok, Err, Result, sym, refl, ◌∙◌, inl, inr, arith}
+use Rattle.std.proofs.lemmas.Bool.{cases_Bool, cond_both, cond-false, cond-true, and_from, and_parts, and_right, or_from, or_parts, eq-eqb, eqb-true, le-leb, le-ltb, leb-true, not-false, not_from_true}
 use Rattle.std.proofs.lemmas.Bool.Decides.{nat_tests}
 use Rattle.packet.specs.Bytes.{Bytes, byte, read16}
 use Rattle.packet.specs.Packet.{Packet, packet, head_length, good_header, tcp, segment, too_long, wrong_sum, right_header_sum, right_segment_sum, read}

@@ -1,9 +1,9 @@
 -- Numbers and the places for which they stand. Assumes nothing.
-use Rattle.std.proofs.Common.{◌≡◌, ℕ, ◌+◌, ◌-◌, ◌%◌, ◌<◌, ◌≤◌, true, false, ltb, leb, ◌≢◌, ◌⊎◌, Some, None, sym, refl, ap, ◌∙◌, inl, inr, ⊎_elim, arith}
+use Rattle.std.proofs.Common.{◌≡◌, ℕ, ◌+◌, ◌-◌, ◌<◌, ◌≤◌, ltb, leb, ◌≢◌, ◌⊎◌, Some, None, sym, refl, ap, ◌∙◌, inl, inr, ⊎_elim, arith}
 use Rattle.std.proofs.lemmas.Bool.{cases_eq, cases_lt, cond_both, cond-true, cond-false, le-leb, lt-leb, lt-ltb, leb-true, leb-false}
 use Rattle.sequence.specs.Places.{Place, Below, At, number_of, ahead, before, place_after, place_of}
 use Rattle.sequence.specs.Model.{fitting}
-use Rattle.sequence.specs.Laws.{Stands, Lower, Nearer, distance, Near, PlaceLaw}
+use Rattle.sequence.specs.Laws.{Stands, Nearer, distance, Near, PlaceLaw}
 
 at_injective : {i j : ℕ} → At i ≡ At j → i ≡ j
 at_injective e = cc

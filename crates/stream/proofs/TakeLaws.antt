@@ -1,10 +1,10 @@
 -- A segment taken by the code is a step of the model.
 -- Assumes nothing.
-use Rattle.std.proofs.Common.{◌≡◌, ℕ, ◌+◌, ◌-◌, ◌<◌, ◌≤◌, min, max, Bool, true, false, cond, not, ◌&&◌, ltb, leb, List, [], ◌∷◌, ◌++◌, length, get_or, drop, is_some, Some, None, MatchBool, Option, sym, refl, ap, ◌∙◌, subst, inl, inr, arith}
-use Rattle.std.specs.List.{slice_get, between}
+use Rattle.std.proofs.Common.{◌≡◌, ℕ, ◌+◌, ◌-◌, ◌<◌, ◌≤◌, min, Bool, true, false, cond, not, ◌&&◌, ltb, leb, List, [], ◌∷◌, ◌++◌, length, get_or, drop, is_some, Some, None, MatchBool, Option, sym, refl, ap, ◌∙◌, subst, inl, inr, arith}
+use Rattle.std.specs.List.{between}
 use Rattle.std.proofs.lemmas.List.Edits.{length-between}
 use Rattle.std.proofs.lemmas.List.{length-drop}
-use Rattle.std.proofs.lemmas.Bool.{cases_lt, cond_both, cond-true, cond-false, cases_Bool, le-leb, lt-leb, le-ltb, lt-ltb}
+use Rattle.std.proofs.lemmas.Bool.{cases_lt, cond_both, cond-true, cond-false, lt-leb, le-ltb, lt-ltb}
 use Rattle.std.proofs.lemmas.Bool.Decides.{nat_tests}
 use Rattle.automaton.specs.Look.{Found, look}
 use Rattle.automaton.specs.Text.{Text, nonempty}
@@ -14,14 +14,14 @@ use Rattle.window.specs.Known.{Known, Piece, Within, byte_of, cut, learn, none_k
 use Rattle.window.specs.Shows.{Serves, Shows}
 use Rattle.window.specs.Window.{knows, width}
 use Rattle.window.proofs.KnownLaws.{length-overlay, none_known-same}
-use Rattle.window.proofs.PieceLaws.{cut_inside, from_there, learn-none, none_since, nth_within}
+use Rattle.window.proofs.PieceLaws.{cut_inside, from_there, none_since, nth_within}
 use Rattle.window.proofs.ShowLaws.{window_serves}
 use Rattle.stream.specs.Looked.{LookOf}
 use Rattle.stream.specs.Part.{PartOf, fin_may_stand, kept_if}
 use Rattle.stream.specs.Promise.{Sound}
 use Rattle.stream.specs.Shown.{Shown, Stands, outcome_of}
 use Rattle.stream.specs.Took.{Cuts, Differs, Took}
-use Rattle.stream.specs.Steps.{Arrival, Arrives, Closed, Empty, Outcome, Passed, Segment, Word, after, fin_at, fin_left, is_empty, on_look, outcome, piece_left, piece_of, run, step}
+use Rattle.stream.specs.Steps.{Arrival, Arrives, Closed, Empty, Outcome, Passed, Segment, Word, after, fin_left, is_empty, on_look, outcome, piece_left, piece_of, run, step}
 use Rattle.stream.specs.Stream.{Stream, blank, fin_fits, inner, kept_fin, new_text, next_known, none_elsewhere, passed_part, piece_at, places, shut_down, taken, up_to, window_end}
 use Rattle.stream.specs.declared.look.Looked.{Looked}
 use Rattle.stream.specs.declared.look.Looked.TheVariants as looked

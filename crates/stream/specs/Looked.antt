@@ -1,5 +1,5 @@
 -- What looking at the new bytes of a text answers. Assumes nothing.
-use Rattle.std.specs.Prelude.{◌≡◌, ℕ, ◌<◌, List, [], ◌++◌, length, Some, None, slice_index_or}
+use Rattle.std.specs.Prelude.{◌≡◌, ◌<◌, List, [], ◌++◌, length, Some, None, slice_index_or}
 use Rattle.automaton.specs.Text.{Text}
 use Rattle.automaton.specs.Look.{look}
 use Rattle.automaton.specs.States.{run}

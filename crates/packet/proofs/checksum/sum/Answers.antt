@@ -1,6 +1,5 @@
-use Rattle.std.proofs.Common.{◌+◌, ◌/◌, ◌%◌, refl, ap, ◌∙◌, arith}
+use Rattle.std.proofs.Common.{◌+◌, ◌/◌, ◌%◌, refl, ◌∙◌}
 use lib.Bits.{and_mask}
-use Rattle.packet.specs.Checksum.{fold}
 use Rattle.packet.proofs.SumLaws.{sum_swapped}
 use Rattle.packet.proofs.checksum.sum.Goals as goal
 

@@ -1,5 +1,4 @@
-use Rattle.std.proofs.Common.{sym, ◌∙◌, arith}
-use Rattle.automaton.specs.Scanned.{Sound}
+use Rattle.std.proofs.Common.{◌∙◌, arith}
 use Rattle.automaton.proofs.Looks.{state_in}
 use Rattle.automaton.proofs.table.Table.look.Goals as goal
 use Rattle.automaton.proofs.table.Table.look.Goals.{then-from-len, else-from-len}

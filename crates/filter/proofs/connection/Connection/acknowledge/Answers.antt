@@ -1,14 +1,13 @@
-use Rattle.std.proofs.Common.{◌≡◌, ℕ, ◌≤◌, true, false, length, drop, sym, refl, ap, ◌∙◌, arith}
+use Rattle.std.proofs.Common.{◌≡◌, true, false, length, drop, sym, refl, ap, ◌∙◌, arith}
 use Rattle.std.specs.List.{between}
 use Rattle.std.proofs.lemmas.List.{drop_all}
 use Rattle.std.proofs.lemmas.Slice.{between_to_end}
-use Rattle.packet.specs.Bytes.{Bytes}
 use Rattle.packet.specs.Packet.{packet, rewrite}
 use Rattle.sequence.specs.Model.{model_of}
 use Rattle.sequence.specs.Places.{number_of, place_of}
 use Rattle.stream.specs.Stream.{Stream, ack_limit, acknowledged_to}
 use Rattle.filter.specs.Config.{Outside}
-use Rattle.filter.specs.Decide.{acked_at, acknowledges, lowered}
+use Rattle.filter.specs.Decide.{acked_at, lowered}
 use Rattle.filter.specs.Gate.{active}
 use Rattle.filter.specs.Held.{above}
 use Rattle.filter.specs.Verdict.{Update}

@@ -1,11 +1,7 @@
-use Rattle.std.proofs.Common.{◌≡◌, ℕ, ◌+◌, ◌-◌, ◌≤◌, true, false, length, sym, refl, ap, ◌∙◌, subst, arith}
-use borrow.Rule.Slice.PartMut.{put_mid}
-use Rattle.packet.specs.Bytes.{Bytes}
-use Rattle.packet.specs.Rewrites.{Before, Overwritten, Within}
+use Rattle.std.proofs.Common.{◌≡◌, ◌+◌, ◌-◌, ◌≤◌, length, sym, refl, ap, ◌∙◌, arith}
 use Rattle.std.proofs.lemmas.Bool.{both_ways, cond-false, cond-true}
 use Rattle.sequence.specs.Places.{place_of}
-use Rattle.filter.specs.declared.connection.Connection.{Connection}
-use Rattle.filter.proofs.ForwardLaws.{decided, differs_model, edit_within, err_left, handles_err, handles_pass, low_fits, part_new, pass_left, patched, payload_length, whole_new, within_new}
+use Rattle.filter.proofs.ForwardLaws.{differs_model, edit_within, err_left, handles_err, handles_pass, low_fits, part_new, pass_left, patched, payload_length, whole_new, within_new}
 use Rattle.filter.proofs.connection.Connection.forward.Goals as goal
 use Rattle.filter.proofs.connection.Connection.forward.Goals.{then-differs, else-differs, then-segment, else-segment}
 

@@ -4,7 +4,7 @@ use Rattle.sequence.specs.Model.{model_of}
 use Rattle.window.specs.Known.{forget}
 use Rattle.window.specs.Window.{knows, width}
 use Rattle.stream.specs.Shown.{Shown}
-use Rattle.stream.specs.Steps.{Acked, run, step}
+use Rattle.stream.specs.Steps.{Acked, run}
 use Rattle.stream.specs.Stream.{Stream, acknowledged_to, blank}
 use Rattle.stream.specs.declared.stream.Stream.{Stream as Value}
 use Rattle.stream.proofs.Kept.{promise}

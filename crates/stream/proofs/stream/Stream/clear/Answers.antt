@@ -1,6 +1,4 @@
-use Rattle.std.proofs.Common.{refl}
 use Rattle.stream.specs.Steps.{run}
-use Rattle.stream.specs.declared.stream.Stream.{Stream}
 use Rattle.stream.proofs.MarkLaws.{blank_shown}
 use Rattle.stream.proofs.stream.Stream.clear.Goals as goal
 

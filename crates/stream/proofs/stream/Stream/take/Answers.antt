@@ -1,17 +1,14 @@
-use Rattle.std.proofs.Common.{◌≡◌, ℕ, ◌-◌, ◌<◌, true, List, length, is_some, sym, refl, ap, ◌∙◌, arith}
+use Rattle.std.proofs.Common.{◌≡◌, ◌-◌, true, length, is_some, sym, refl, ap, ◌∙◌, arith}
 use borrow.Rule.Slice.PartMut.{put_mid}
 use Rattle.std.specs.List.{between}
 use Rattle.std.proofs.lemmas.List.Edits.{length-between}
 use Rattle.std.proofs.lemmas.Slice.{between-put_mid, drop-put_mid, take-put_mid_below}
-use Rattle.automaton.specs.Text.{Text, nonempty}
 use Rattle.sequence.specs.Model.{model_of}
 use Rattle.window.specs.Window.{knows, width}
 use Rattle.window.proofs.KnownLaws.{length-overlay}
 use Rattle.stream.specs.Part.{fin_may_stand, kept_if}
-use Rattle.stream.specs.Shown.{Stands}
-use Rattle.stream.specs.Steps.{Arrival, Segment, fin_left, run}
-use Rattle.stream.specs.Stream.{Stream, blank}
-use Rattle.stream.specs.Promise.{Sound}
+use Rattle.stream.specs.Steps.{Segment, fin_left, run}
+use Rattle.stream.specs.Stream.{blank}
 use Rattle.stream.specs.declared.stream.Stream.{Stream as Value}
 use Rattle.stream.specs.declared.taken.Taken.TheVariants.{Closed, Empty, Passed, Word}
 use Rattle.stream.specs.declared.look.Looked.TheVariants as looked

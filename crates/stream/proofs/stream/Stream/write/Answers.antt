@@ -1,4 +1,4 @@
-use Rattle.std.proofs.Common.{sym, refl, ap, ◌∙◌}
+use Rattle.std.proofs.Common.{refl, ap, ◌∙◌}
 use Rattle.window.specs.Known.{learn, piece}
 use Rattle.window.specs.Window.{knows}
 use Rattle.window.proofs.KnownLaws.{learn-overlay}
