@@ -1,7 +1,7 @@
 // A stream to try segments on.
 use automaton::{Table, WordList};
 use sequence::Place;
-use std::process::Abort;
+use std::fmt::Debug;
 use std::test::Fail;
 use stream::{Stream, Taken};
 
@@ -31,28 +31,30 @@ impl Bench {
     // A segment comes: the answer, and the lent bytes then, are these.
     pub fn sends<const N: usize>(
         &mut self,
-        rt: &impl Abort,
         at: Place,
         came: [u8; N],
         fin: bool,
         answer: Taken,
         left: [u8; N],
-    ) {
-        let case = self.case;
+    ) -> Result<(), Fail> {
         let mut bytes = came;
-        assert_eq!(rt;
-            self.stream.take(&self.table, at, &mut bytes, fin),
-            answer,
-            "case {case}"
-        );
-        assert_eq!(rt; bytes, left, "case {case}");
+        let taken = self.stream.take(&self.table, at, &mut bytes, fin);
+        self.check_eq(&taken, &answer)?;
+        self.check_eq(&bytes, &left)
     }
 
     // The end of the text, and up to where the receiver may acknowledge.
-    pub fn reaches(&self, rt: &impl Abort, end: u64, limit: u64) {
+    pub fn reaches(&self, end: u64, limit: u64) -> Result<(), Fail> {
+        self.check_eq(&self.stream.marks().end, &end)?;
+        self.check_eq(&self.stream.ack_limit(), &limit)
+    }
+
+    pub fn check_eq<T: PartialEq + Debug>(&self, is: &T, wanted: &T) -> Result<(), Fail> {
+        if is == wanted {
+            return Ok(());
+        }
         let case = self.case;
-        assert_eq!(rt; self.stream.marks().end, end, "case {case}");
-        assert_eq!(rt; self.stream.ack_limit(), limit, "case {case}");
+        Err(Fail::new(format_args!("case {case}: {is:?} in place of {wanted:?}")))
     }
 }
 

@@ -1,7 +1,6 @@
 // Pieces of a text in every order.
 use crate::bench::{Bench, passed, word_at};
 use sequence::Place;
-use std::process::Abort;
 use std::test::Fail;
 
 // Overlapping pieces of the text `abcdefghi`, each of three bytes.
@@ -20,7 +19,7 @@ fn end_of(came: &[bool; 4]) -> u64 {
 }
 
 // Four pieces, chosen by the digits of a number to the base 4. With all of them the text holds a word, if there is one.
-fn try_order(rt: &impl Abort, bench: &mut Bench, order: usize, word: Option<u64>) {
+fn try_order(bench: &mut Bench, order: usize, word: Option<u64>) -> Result<(), Fail> {
     bench.stream.clear();
     bench.case = order;
     let mut came = [false; 4];
@@ -33,23 +32,17 @@ fn try_order(rt: &impl Abort, bench: &mut Bench, order: usize, word: Option<u64>
         rest /= 4;
         match word {
             Some(found) if after > found => {
-                bench.sends(rt, Place::At(place), bytes, false, word_at(found, 0), bytes);
-                assert!(rt; bench.stream.marks().shut, "case {order}");
-                bench.reaches(rt, before, before);
+                bench.sends(Place::At(place), bytes, false, word_at(found, 0), bytes)?;
+                bench.check_eq(&bench.stream.marks().shut, &true)?;
+                bench.reaches(before, before)?;
             }
             _ => {
-                bench.sends(
-                    rt,
-                    Place::At(place),
-                    bytes,
-                    false,
-                    passed(0, 3, place),
-                    bytes,
-                );
-                bench.reaches(rt, after, after);
+                bench.sends(Place::At(place), bytes, false, passed(0, 3, place), bytes)?;
+                bench.reaches(after, after)?;
             }
         }
     }
+    Ok(())
 }
 
 // All of them, with pieces that come twice and such as never come.
@@ -58,8 +51,8 @@ fn any_order(rt: HostRuntime) -> Result<(), Fail> {
     let mut clean = Bench::new(&rt, b"\x01\x02zz")?;
     let mut wordy = Bench::new(&rt, b"\x01\x03fgh")?;
     for order in 0..256 {
-        try_order(&rt, &mut clean, order, None);
-        try_order(&rt, &mut wordy, order, Some(7));
+        try_order(&mut clean, order, None)?;
+        try_order(&mut wordy, order, Some(7))?;
     }
     Ok(())
 }
