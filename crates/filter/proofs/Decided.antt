@@ -294,8 +294,8 @@ module _ (c : Config) (g : Gate) (p : Bytes) (reads : read p ≡ Ok (packet p)) 
   lowered_crosses (At i) =
       cond_both (leb i (ack_limit (stream_of (loom_of p) g))) p _ (Crosses Looms p Outside) (λ _. as_came_lem Looms p) (λ _. loom_crosses p reads _ (packet p).payload (inl refl))
 
-  loom_held : (noRoom : Bool) → among (loom_of p) g.keys ≡ true → FromItsLoom (from_loom c (loom_of p) (packet p) noRoom (Some (g.connection (loom_of p))))
-  loom_held noRoom held =
+  loom_held : (no_room : Bool) → among (loom_of p) g.keys ≡ true → FromItsLoom (from_loom c (loom_of p) (packet p) no_room (Some (g.connection (loom_of p))))
+  loom_held no_room held =
       cond_both s.stream.shut (Refuse 8) _ FromItsLoom
       (λ is. refuses Looms p 8 (omega arith) (λ k there.
       ⊎_elim (λ e. subst (Idle c g (Comes Looms p)) (sym (same_key_lem k (loom_of p) e)) (idle_shut is)) (λ d. idle_none (other_ack p reads k (g.connection k) d)) (cases_Bool (same_key k (loom_of p)))))

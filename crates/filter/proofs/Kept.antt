@@ -7,7 +7,7 @@ use Rattle.window.proofs.PieceLaws.{none-some}
 use Rattle.stream.specs.Stream.{Stream, blank}
 use Rattle.stream.specs.Steps as steps
 use Rattle.stream.specs.Promise.{Sound, OneText, Source}
-use Rattle.stream.specs.Promise as oneStream
+use Rattle.stream.specs.Promise as one_stream
 use Rattle.stream.proofs.Sound.{blank_sound}
 use Rattle.stream.proofs.Honest.{blank_from}
 use Rattle.stream.proofs.Kept.{promise}
@@ -28,29 +28,29 @@ found_parts k g s =
     cond_both (among k g.keys) (Some (g.connection k)) None (λ x. x ≡ Some s → (among k g.keys ≡ true) × (g.connection k ≡ s))
     (λ held e. let is : g.connection k ≡ s = cc in (held, is)) (λ _ e. absurd (none-some refl e))
 
-module _ (c : Config) (fit : Fit c) (k : Key) (g : Gate) (held : among k g.keys ≡ true) (isBlank : stream_of k g ≡ blank) (after : List Event) (stays : Stays c k g after) where
+module _ (c : Config) (fit : Fit c) (k : Key) (g : Gate) (held : among k g.keys ≡ true) (is_blank : stream_of k g ≡ blank) (after : List Event) (stays : Stays c k g after) where
   sound : Sound c.width c.words (stream_of k g)
-  sound = rw isBlank (blank_sound c.width c.words fit.words)
+  sound = rw is_blank (blank_sound c.width c.words fit.words)
 
   r : Runs c k g after
   r = runs c fit.width k g after held stays sound
 
-  one : oneStream.Kept c.width c.words (arrivals c k g after)
+  one : one_stream.Kept c.width c.words (arrivals c k g after)
   one = promise c.width c.words fit.words (arrivals c k g after)
 
   abbrev came : List steps.Arrival
   came = arrivals c k g after
 
   is_run_lem : stream_of k (run c g after) ≡ steps.run c.width c.words blank came
-  is_run_lem = r.stream ∙ ap (λ s. steps.run c.width c.words s came) isBlank
+  is_run_lem = r.stream ∙ ap (λ s. steps.run c.width c.words s came) is_blank
 
   -- what holds of a run of the stream's steps holds of the stream and of what went out
   along : (P : Stream → List Piece → List ℕ → Type 0) → P (steps.run c.width c.words blank came) (steps.passed c.width c.words blank came) (steps.fins c.width c.words blank came) →
       P (stream_of k (run c g after)) (passed c k g after) (finished c k g after)
   along P h =
       subst (λ (s : Stream). P s (passed c k g after) (finished c k g after)) (sym is_run_lem)
-      (subst (λ (ps : List Piece). P (steps.run c.width c.words blank came) ps (finished c k g after)) (sym (r.pieces ∙ ap (λ s. steps.passed c.width c.words s came) isBlank))
-      (subst (λ (fs : List ℕ). P (steps.run c.width c.words blank came) (steps.passed c.width c.words blank came) fs) (sym (r.fins ∙ ap (λ s. steps.fins c.width c.words s came) isBlank)) h))
+      (subst (λ (ps : List Piece). P (steps.run c.width c.words blank came) ps (finished c k g after)) (sym (r.pieces ∙ ap (λ s. steps.passed c.width c.words s came) is_blank))
+      (subst (λ (fs : List ℕ). P (steps.run c.width c.words blank came) (steps.passed c.width c.words blank came) fs) (sym (r.fins ∙ ap (λ s. steps.fins c.width c.words s came) is_blank)) h))
 
   acknowledges : (h : Gate) (e : Event) → among k h.keys ≡ true → Goes c k h e → Sound c.width c.words (stream_of k h) → Acknowledges c k h e
   acknowledges h e there goes fine =
@@ -59,8 +59,8 @@ module _ (c : Config) (fit : Fit c) (k : Key) (g : Gate) (held : among k g.keys 
   honest : (source : Source) → Honest c k source g after → Unharmed c k source g after
   honest source h =
       record {
-        unchanged = along (oneStream.Unharmed c.words source) (one.honest source (run_agrees c fit.width k source g after h));
-        goes_out = run_goes_out c fit.width k source g after held stays h sound (rw isBlank (blank_from source));
+        unchanged = along (one_stream.Unharmed c.words source) (one.honest source (run_agrees c fit.width k source g after h));
+        goes_out = run_goes_out c fit.width k source g after held stays h sound (rw is_blank (blank_from source));
       }
 
   kept : Kept c k g after
@@ -69,7 +69,7 @@ module _ (c : Config) (fit : Fit c) (k : Key) (g : Gate) (held : among k g.keys 
         is_run = is_run_lem;
         one_text = along (λ s ps fs. OneText c.words s.text ps fs) one.one_text;
         sound = subst (Sound c.width c.words) (sym is_run_lem) one.sound;
-        shuts = run_shuts c fit.width k g after held stays sound (rw isBlank refl);
+        shuts = run_shuts c fit.width k g after held stays sound (rw is_blank refl);
         passed_on = each c fit.width k (PassedOn c k) (passed_on_lem c fit.width k) g after held stays sound;
         acknowledges = each c fit.width k (Acknowledges c k) acknowledges g after held stays sound;
         counts = each c fit.width k (Counts c k) (λ h e there goes _. counts c h k e there goes) g after held stays sound;

@@ -12,7 +12,7 @@ use Rattle.stream.specs.Stream.{Stream}
 use Rattle.stream.specs.Steps.{Segment, Arrival, Arrives, Acked, Outcome, after, step}
 use Rattle.stream.specs.Steps as steps
 use Rattle.stream.specs.Promise.{Sound, Source, Agrees}
-use Rattle.stream.specs.Promise as oneStream
+use Rattle.stream.specs.Promise as one_stream
 use Rattle.stream.proofs.Next as following
 use Rattle.stream.proofs.Runs.{run-append, passed-append, fins-append, run_sound, run_stays}
 use Rattle.stream.proofs.Honest.{FromSource, run_from, goes_out_lem}
@@ -204,7 +204,7 @@ module _ (c : Config) (small : c.width ≤ 65536) (k : Key) where
 
   module _ (source : Source) where
     -- what an honest sender's event brings agrees with the source
-    arrival_agrees : (s : Connection) (x y : Option Packet) → ((p : Packet) → x ≡ Some p → Agrees source (segment_at s p)) → oneStream.Honest source (arrival s x y)
+    arrival_agrees : (s : Connection) (x y : Option Packet) → ((p : Packet) → x ≡ Some p → Agrees source (segment_at s p)) → one_stream.Honest source (arrival s x y)
     arrival_agrees s (Some p) y h a m = go (Memᴰ.eq_of_singleton m)
       where
         go : Arrives a ≡ Arrives (segment_at s p) → Agrees source a
@@ -215,7 +215,7 @@ module _ (c : Config) (small : c.width ≤ 65536) (k : Key) where
         arrives-not_acked e = let z : ◌≡◌ {A = ℕ} 0 1 = cc in omega arith
     arrival_agrees s None None h a m = absurd (Memᴰ.not-nil m)
 
-    pub run_agrees : (g : Gate) (es : List Event) → Honest c k source g es → oneStream.Honest source (arrivals c k g es)
+    pub run_agrees : (g : Gate) (es : List Event) → Honest c k source g es → one_stream.Honest source (arrivals c k g es)
     unfolding arrivals
     run_agrees g [] h a m = absurd (Memᴰ.not-nil m)
     run_agrees g (e ∷ es) h a m =

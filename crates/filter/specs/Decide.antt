@@ -109,12 +109,12 @@ abbrev pub bare_reset : Packet → Bytes
 bare_reset p = rewrite p p.number p.acknowledged p.marks []
 
 abbrev pub from_loom : Config → Key → Packet → Bool → Option Connection → Verdict
-from_loom c k p noRoom None =
+from_loom c k p no_room None =
     cond p.rst (Forward Outside (bare_reset p))
     (cond (p.syn && p.ack)
-    (cond noRoom (Refuse 6) (beginning c k p))
+    (cond no_room (Refuse 6) (beginning c k p))
     (Forward Outside p.bytes))
-from_loom c k p noRoom (Some s) =
+from_loom c k p no_room (Some s) =
     let again : Verdict = Update k (active c.quiet s.stream s) Outside p.bytes in
     let acked : Verdict = acknowledges c k s p in
     cond s.stream.shut (Refuse 8)

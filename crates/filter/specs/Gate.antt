@@ -1,5 +1,5 @@
 -- What the gate holds: up to 256 streams. Assumes nothing.
-use Rattle.std.specs.Prelude.{ℕ, ◌-◌, Bool, false, cond, not, ◌||◌, ltb, List, [], ◌∷◌, length, Some, None, Option, nat_le, nat_lt}
+use Rattle.std.specs.Prelude.{ℕ, ◌-◌, Bool, false, cond, not, ◌||◌, List, [], ◌∷◌, length, Some, None, Option, nat_le, nat_lt}
 use Rattle.sequence.specs.Places.{number_of}
 use Rattle.stream.specs.Stream.{Stream, blank, shut_down}
 use Rattle.filter.specs.Config.{Key, same_key}
@@ -61,7 +61,7 @@ remove k g = record { keys = only (λ x. not (same_key x k)) g.keys; connection 
 
 -- ticks go by: a stream with no more ticks left than these is ended
 abbrev pub elapse : ℕ → Gate → Gate
-elapse n g = record { keys = only (λ x. ltb n (g.connection x).left) g.keys; connection = λ x. aged n (g.connection x) }
+elapse n g = record { keys = only (λ x. nat_lt n (g.connection x).left) g.keys; connection = λ x. aged n (g.connection x) }
 
 -- what is held of a stream then
 abbrev pub elapsed : ℕ → Option Connection → Option Connection

@@ -13,7 +13,7 @@ use Rattle.stream.specs.Stream.{Stream, blank, ack_limit}
 use Rattle.stream.specs.Steps.{Arrival, Arrives, Acked, piece_of, fin_at, Word, outcome, piece_in, fin_in}
 use Rattle.stream.specs.Steps as steps
 use Rattle.stream.specs.Promise.{Sound, OneText, Source, Agrees}
-use Rattle.stream.specs.Promise as oneStream
+use Rattle.stream.specs.Promise as one_stream
 use Rattle.filter.specs.Config.{Config, Side, Outside, Looms, opposite, Key, same_key, key_from}
 use Rattle.filter.specs.Gate.{Connection, begun, closed, Gate, among, empty, find, full, put, elapsed}
 use Rattle.filter.specs.Verdict.{Event, Comes, Ticks, Verdict, Refuse, Forward, Update, Begin, End, Shut, Elapse, Answer, Out, Refused, Resets, Quiet, refusal_of, out_of, to_looms}
@@ -131,12 +131,12 @@ pub record WordCame (c : Config) (k : Key) (text : Text) (g : Gate) (e : Event) 
   pub came : segment_of k e ≡ Some segment
   pub was_open : (stream_of k g).shut ≡ false
   pub same : (stream_of k g).text ≡ text
-  pub word : oneStream.WordCame c.width c.words (stream_of k g) (segment_at (g.connection k) segment)
+  pub word : one_stream.WordCame c.width c.words (stream_of k g) (segment_at (g.connection k) segment)
 
 -- of a segment goes out what is promised for one stream; for another event nothing goes out
 pub record PassedOn (c : Config) (k : Key) (g : Gate) (e : Event) : Type 0 where
   pub segment : (p : Packet) → segment_of k e ≡ Some p →
-      oneStream.PassedOn c.width (stream_of k g) (segment_at (g.connection k) p) (stream_of k (next c g e)).shut (passed_by c k g e) (finished_by c k g e)
+      one_stream.PassedOn c.width (stream_of k g) (segment_at (g.connection k) p) (stream_of k (next c g e)).shut (passed_by c k g e) (finished_by c k g e)
   pub other : segment_of k e ≡ None → (passed_by c k g e ≡ []) × (finished_by c k g e ≡ [])
   -- with an acknowledged number it goes out even where nothing else is left of it
   pub ack : (p : Packet) → segment_of k e ≡ Some p → p.ack ≡ true → (stream_of k g).shut ≡ false → (stream_of k (next c g e)).shut ≡ false →
@@ -150,11 +150,11 @@ Honest c k source = Each c (λ g e. (p : Packet) → segment_of k e ≡ Some p �
 abbrev pub GoesOut : Config → Key → Gate → Event → Type 0
 GoesOut c k g e =
     (p : Packet) → segment_of k e ≡ Some p →
-    oneStream.GoesOut c.width (stream_of k g) (segment_at (g.connection k) p) (stream_of k (next c g e)).shut (passed_by c k g e) (finished_by c k g e)
+    one_stream.GoesOut c.width (stream_of k g) (segment_at (g.connection k) p) (stream_of k (next c g e)).shut (passed_by c k g e) (finished_by c k g e)
 
 -- from an honest sender nothing is changed, and nothing is lost
 pub record Unharmed (c : Config) (k : Key) (source : Source) (g : Gate) (after : List Event) : Type 0 where
-  pub unchanged : oneStream.Unharmed c.words source (stream_of k (run c g after)) (passed c k g after) (finished c k g after)
+  pub unchanged : one_stream.Unharmed c.words source (stream_of k (run c g after)) (passed c k g after) (finished c k g after)
   pub goes_out : Each c (GoesOut c k) g after
 
 -- an acknowledged number of the loom's goes out as it came, or lowered to what was passed on without a gap; low rises with it, up to the end of the text;
