@@ -49,6 +49,7 @@ impl Bench {
         self.check_eq(&self.stream.ack_limit(), &limit)
     }
 
+    // A failure, unless two values are equal, tells both and the case.
     pub fn check_eq<T: PartialEq + Debug>(&self, is: &T, wanted: &T) -> Result<(), Fail> {
         if is == wanted {
             return Ok(());
