@@ -1,6 +1,6 @@
 -- Looking at the new bytes of a text, part after part.
 -- Assumes nothing.
-use Rattle.std.proofs.Common.{◌≡◌, ℕ, zero, suc, ◌+◌, ◌-◌, ◌<◌, ◌≤◌, ◌⊎◌, List, [], ◌∷◌, ◌++◌, length, get_or, take, drop, Some, None, Option, sym, refl, ap, ◌∙◌, subst, ⊎_elim, arith, take-add}
+use Rattle.std.proofs.Common.{◌≡◌, ℕ, zero, suc, ◌+◌, ◌-◌, ◌<◌, ◌≤◌, ◌⊎◌, List, [], ◌∷◌, ◌++◌, length, get_or, take, drop, Some, None, Ok, Err, Option, sym, refl, ap, ◌∙◌, subst, ⊎_elim, arith, take-add}
 use Rattle.std.proofs.lemmas.List.{append-nil, length-take, length-drop, length-append, take-append-drop}
 use Rattle.automaton.specs.Look.{look}
 use Rattle.automaton.specs.Scanned.{Judged}
@@ -12,7 +12,6 @@ use Rattle.window.specs.Known.{Known, learn, on_byte, onwards, overlay, piece}
 use Rattle.window.specs.Ring.{Front}
 use Rattle.window.proofs.KnownLaws.{inside-above, inside_below, learn_outside, length-overlay, onwards_enough, onwards-learn, onwards-none}
 use Rattle.stream.specs.Looked.{LookOf}
-use Rattle.stream.specs.declared.look.Looked.TheVariants as looked
 
 pub judged_none : (ws : List Text) (t : Text) (s : ℕ) → s ≡ run ws 0 t → Judged ws t [] (Clean s)
 unfolding look
@@ -77,9 +76,9 @@ module _ (f : Known) (low w end place : ℕ) (bs : List ℕ) (above : low ≤ en
       ∙ sym (onwards-learn w place end bs f a (omega arith) (omega arith))
 
 -- what was found in the new bytes, by places
-pub looked_clean : (ws : List Text) (t new more : Text) (s end : ℕ) → new ≡ more → end ≡ length t + length new → Judged ws t new (Clean s) → LookOf ws t more (looked.Clean end s)
-looked_clean ws t new more s end e n j = subst (λ (x : Text). LookOf ws t x (looked.Clean end s)) e (j.0, n ∙ sym (length-append t new), j.1)
+pub looked_clean : (ws : List Text) (t new more : Text) (s end : ℕ) → new ≡ more → end ≡ length t + length new → Judged ws t new (Clean s) → LookOf ws t more (Ok (record { end = end; state = s }))
+looked_clean ws t new more s end e n j = subst (λ (x : Text). LookOf ws t x (Ok (record { end = end; state = s }))) e (j.0, n ∙ sym (length-append t new), j.1)
 
-pub looked_word : (ws : List Text) (t new more : Text) (i w place : ℕ) → new ≡ more → place ≡ length t + i → Judged ws t new (Found i w) → LookOf ws t more (looked.Word place w)
+pub looked_word : (ws : List Text) (t new more : Text) (i w place : ℕ) → new ≡ more → place ≡ length t + i → Judged ws t new (Found i w) → LookOf ws t more (Err (record { place = place; word = w }))
 looked_word ws t new more i w place e n j =
-    subst (λ (x : Text). LookOf ws t x (looked.Word place w)) e (j.1, j.2 ∙ ap (λ p. Some (record { place = p; word = get_or ws w [] })) (sym n))
+    subst (λ (x : Text). LookOf ws t x (Err (record { place = place; word = w }))) e (j.1, j.2 ∙ ap (λ p. Some (record { place = p; word = get_or ws w [] })) (sym n))

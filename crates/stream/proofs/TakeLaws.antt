@@ -1,6 +1,6 @@
 -- A segment taken by the code is a step of the model.
 -- Assumes nothing.
-use Rattle.std.proofs.Common.{◌≡◌, ℕ, ◌+◌, ◌-◌, ◌<◌, ◌≤◌, min, Bool, true, false, cond, not, ◌&&◌, ltb, leb, List, [], ◌∷◌, ◌++◌, length, get_or, drop, is_some, Some, None, MatchBool, Option, sym, refl, ap, ◌∙◌, subst, inl, inr, arith}
+use Rattle.std.proofs.Common.{◌≡◌, ℕ, ◌+◌, ◌-◌, ◌<◌, ◌≤◌, min, Bool, true, false, cond, not, ◌&&◌, ltb, leb, List, [], ◌∷◌, ◌++◌, length, get_or, drop, is_some, Some, None, Ok, Err, MatchBool, Option, Result, sym, refl, ap, ◌∙◌, subst, inl, inr, arith}
 use Rattle.std.specs.List.{between}
 use Rattle.std.proofs.lemmas.List.Edits.{length-between}
 use Rattle.std.proofs.lemmas.List.{length-drop}
@@ -19,15 +19,14 @@ use Rattle.window.proofs.ShowLaws.{window_serves}
 use Rattle.stream.specs.Looked.{LookOf}
 use Rattle.stream.specs.Part.{PartOf, fin_may_stand, kept_if}
 use Rattle.stream.specs.Promise.{Sound}
-use Rattle.stream.specs.Shown.{Shown, Stands, outcome_of}
+use Rattle.stream.specs.Shown.{Answer, Shown, Stands, outcome_of}
 use Rattle.stream.specs.Took.{Cuts, Differs, Took}
 use Rattle.stream.specs.Steps.{Arrival, Arrives, Closed, Empty, Outcome, Passed, Segment, Word, after, fin_left, is_empty, on_look, outcome, piece_left, piece_of, run, step}
 use Rattle.stream.specs.Stream.{Stream, blank, fin_fits, inner, kept_fin, new_text, next_known, none_elsewhere, passed_part, piece_at, places, shut_down, taken, up_to, window_end}
-use Rattle.stream.specs.declared.look.Looked.{Looked}
-use Rattle.stream.specs.declared.look.Looked.TheVariants as looked
+use Rattle.stream.specs.declared.look.Reached.{Reached}
+use Rattle.stream.specs.declared.taken.WordAt.{WordAt}
 use Rattle.stream.specs.declared.part.Part.{Part}
 use Rattle.stream.specs.declared.stream.Stream.{Stream as Value}
-use Rattle.stream.specs.declared.taken.Taken.{Taken}
 use Rattle.stream.proofs.Kept.{promise}
 
 after_below : (m n g : ℕ) → place_after (Below m) n ≡ Some g → n - m ≡ g
@@ -63,7 +62,7 @@ pub stands_more : (ws : List Text) (before : List Arrival) (x : Arrival) (w : �
 stands_more ws before x w v' ew h =
     subst (λ (n : ℕ). Shown ws (run n ws blank (before ++ (x ∷ []))) v') (sym ew) (subst (λ (t : Stream). Shown ws t v') (sym (run_push w ws blank before x)) h)
 
-pub took : (ws : List Text) (before : List Arrival) (a : Segment) (w : ℕ) (v' : Value) (bytes : List ℕ) (r : Taken) → nonempty ws ≡ true → width v'.window ≡ w →
+pub took : (ws : List Text) (before : List Arrival) (a : Segment) (w : ℕ) (v' : Value) (bytes : List ℕ) (r : Answer) → nonempty ws ≡ true → width v'.window ≡ w →
     outcome w ws (run w ws blank before) a ≡ outcome_of ws bytes r → Shown ws (after w (run w ws blank before) a (outcome_of ws bytes r)) v' → Cuts (inner w (run w ws blank before) (piece_of a)).bytes a.bytes r →
     Took ws before a v' bytes r
 took ws before a w v' bytes r ne ew eo h cuts = record {
@@ -117,7 +116,7 @@ module _ (ws : List Text) (s : Stream) (v : Value) (a : Segment) (r : Part) (h :
   grows : onwards W v.marks.end (learn (piece r.place part) (knows v.window)) ≡ new_text W s (piece_of a)
   grows = ap (λ n. onwards W n (learn (piece r.place part) (knows v.window))) h.end ∙ (window_serves s.low W _ _ learned).reads W (length s.text) so.low_text
 
-  pub looks : (l : Looked) → LookOf ws s.text (onwards W v.marks.end (learn (piece r.place part) (knows v.window))) l → LookOf ws s.text (new_text W s (piece_of a)) l
+  pub looks : (l : Result Reached WordAt) → LookOf ws s.text (onwards W v.marks.end (learn (piece r.place part) (knows v.window))) l → LookOf ws s.text (new_text W s (piece_of a)) l
   looks l = subst (λ (t : Text). LookOf ws s.text t l) grows
 
   pub text_low : v.window.low ≤ v.marks.end
@@ -185,10 +184,10 @@ module _ (ws : List Text) (s : Stream) (v : Value) (a : Segment) (r : Part) (h :
   open_outcome : s.shut ≡ false → (o : Option Found) → look ws s.text (new_text W s (piece_of a)) ≡ o → outcome W ws s a ≡ on_look (piece_left W s a) (fin_left W s a) o
   open_outcome e o f = cond-false s.shut Closed _ e ∙ ap (on_look (piece_left W s a) (fin_left W s a)) f
 
-  pub word-outcome : s.shut ≡ false → (place w : ℕ) → LookOf ws s.text (new_text W s (piece_of a)) (looked.Word place w) → outcome W ws s a ≡ Word (record { place = place; word = get_or ws w [] })
-  word-outcome e place w l = open_outcome e (Some (record { place = place; word = get_or ws w [] })) l.1
+  pub word-outcome : s.shut ≡ false → (w : WordAt) → LookOf ws s.text (new_text W s (piece_of a)) (Err w) → outcome W ws s a ≡ Word (record { place = w.place; word = get_or ws w.word [] })
+  word-outcome e w l = open_outcome e (Some (record { place = w.place; word = get_or ws w.word [] })) l.1
 
-  module _ (e : s.shut ≡ false) (end state : ℕ) (l : LookOf ws s.text (new_text W s (piece_of a)) (looked.Clean end state)) (kept : Option ℕ) (ek : kept ≡ fin_left W s a) where
+  module _ (e : s.shut ≡ false) (to : Reached) (l : LookOf ws s.text (new_text W s (piece_of a)) (Ok to)) (kept : Option ℕ) (ek : kept ≡ fin_left W s a) where
     clean_outcome : outcome W ws s a ≡ cond (is_empty (passed_part W s (piece_of a)) && not (is_some kept)) Empty (Passed (piece_left W s a) kept)
     clean_outcome = open_outcome e None l.0 ∙ ap (on_look' (piece_left W s a)) (sym ek)
       where
@@ -218,7 +217,7 @@ module _ (ws : List Text) (s : Stream) (v : Value) (a : Segment) (r : Part) (h :
 
     -- The streams
 
-    pub passed_shown : (v' : Value) → v'.marks ≡ record { low = v.marks.low; end = end; fin = or_else kept v.marks.fin; state = state; shut = v.marks.shut } →
+    pub passed_shown : (v' : Value) → v'.marks ≡ record { low = v.marks.low; end = to.end; fin = or_else kept v.marks.fin; state = to.state; shut = v.marks.shut } →
         v'.window.low ≡ v.window.low → width v'.window ≡ W → ((i : ℕ) → knows v'.window i ≡ learn (piece r.place part) (knows v.window) i) →
         Shown ws (taken W (piece_of a) kept s) v'
     passed_shown v' em el ew ekn = record {

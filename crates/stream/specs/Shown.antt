@@ -1,5 +1,5 @@
 -- What a stream's value stands for. Assumes nothing.
-use Rattle.std.specs.Prelude.{◌≡◌, ℕ, ◌≤◌, List, [], length, take, drop, slice_index_or}
+use Rattle.std.specs.Prelude.{◌≡◌, ℕ, ◌≤◌, List, [], length, take, drop, Some, None, Ok, Err, Option, Result, slice_index_or}
 use Rattle.std.specs.List.{between}
 use Rattle.automaton.specs.Text.{Text}
 use Rattle.automaton.specs.States as automaton
@@ -8,8 +8,9 @@ use Rattle.window.specs.Window.{knows, width}
 use Rattle.stream.specs.Stream.{Stream, blank}
 use Rattle.stream.specs.Steps.{Arrival, Outcome, Passed, Empty, Word, Closed, run}
 use Rattle.stream.specs.declared.stream.Stream.{Stream as Value}
-use Rattle.stream.specs.declared.taken.Taken.{Taken}
-use Rattle.stream.specs.declared.taken.Taken.TheVariants as taken
+use Rattle.stream.specs.declared.taken.Passed.{Passed as Part}
+use Rattle.stream.specs.declared.taken.Refused.{Refused}
+use Rattle.stream.specs.declared.taken.Refused.TheVariants as refused
 
 -- the value has the model's marks, the state of the look after its text, and in the ring what is known inside the window
 pub record Shown (ws : List Text) (s : Stream) (v : Value) : Type 0 where
@@ -25,17 +26,20 @@ pub record Shown (ws : List Text) (s : Stream) (v : Value) : Type 0 where
 abbrev pub Stands : List Text → List Arrival → Value → Type 0
 Stands ws arrivals v = Shown ws (run (width v.window) ws blank arrivals) v
 
+-- what is answered on a segment
+abbrev pub Answer : Type 0
+Answer = Result (Option Part) Refused
+
 -- the outcome that an answer stands for, where these bytes are left in the lent memory
-abbrev pub outcome_of : List Text → List ℕ → Taken → Outcome
-outcome_of ws bytes (taken.Passed start end place fin) = Passed (record { at = place; bytes = between start end bytes }) fin
-outcome_of ws bytes taken.Empty = Empty
-outcome_of ws bytes (taken.Word place word) = Word (record { place = place; word = slice_index_or ws word [] })
-outcome_of ws bytes taken.Closed = Closed
+abbrev pub outcome_of : List Text → List ℕ → Answer → Outcome
+outcome_of ws bytes (Ok (Some p)) = Passed (record { at = p.place; bytes = between p.start p.end bytes }) p.fin
+outcome_of ws bytes (Ok None) = Empty
+outcome_of ws bytes (Err (refused.Word w)) = Word (record { place = w.place; word = slice_index_or ws w.word [] })
+outcome_of ws bytes (Err refused.Shut) = Closed
 
 -- what is left in the lent memory: only the part that goes on may be another
-abbrev pub Left : List ℕ → List ℕ → Taken → Type 0
-Left came bytes (taken.Passed start end place fin) =
-    (start ≤ end) × (end ≤ length came) × (take start bytes ≡ take start came) × (drop end bytes ≡ drop end came)
-Left came bytes taken.Empty = bytes ≡ came
-Left came bytes (taken.Word place word) = bytes ≡ came
-Left came bytes taken.Closed = bytes ≡ came
+abbrev pub Left : List ℕ → List ℕ → Answer → Type 0
+Left came bytes (Ok (Some p)) =
+    (p.start ≤ p.end) × (p.end ≤ length came) × (take p.start bytes ≡ take p.start came) × (drop p.end bytes ≡ drop p.end came)
+Left came bytes (Ok None) = bytes ≡ came
+Left came bytes (Err why) = bytes ≡ came

@@ -1,5 +1,5 @@
 -- What taking a segment does, and what is then promised. Assumes nothing.
-use Rattle.std.specs.Prelude.{◌≡◌, ℕ, ◌^◌, ◌<◌, ◌≤◌, Bool, ◌⊎◌, List, [], ◌∷◌, ◌++◌, Ok, Err, MatchBool, Result, ◌≢◌}
+use Rattle.std.specs.Prelude.{◌≡◌, ℕ, ◌^◌, ◌<◌, ◌≤◌, Bool, ◌⊎◌, List, [], ◌∷◌, ◌++◌, Some, None, Ok, Err, MatchBool, Result, ◌≢◌}
 use Rattle.std.specs.List.{between}
 use Rattle.automaton.specs.Text.{Text}
 use Rattle.window.specs.Known.{Piece}
@@ -9,20 +9,17 @@ use Rattle.window.specs.declared.error.WindowError.TheVariants.{BadPower, NoMemo
 use Rattle.stream.specs.Stream.{Stream, blank, inner, passed_part}
 use Rattle.stream.specs.Steps.{Arrival, Arrives, Segment, outcome, piece_of, run}
 use Rattle.stream.specs.Promise.{Kept}
-use Rattle.stream.specs.Shown.{Stands, outcome_of}
+use Rattle.stream.specs.Shown.{Answer, Stands, outcome_of}
 use Rattle.stream.specs.declared.stream.Stream.{Stream as Value}
-use Rattle.stream.specs.declared.taken.Taken.{Taken}
-use Rattle.stream.specs.declared.taken.Taken.TheVariants as taken
 
 -- the part that goes on is cut from the bytes that came
-abbrev pub Cuts : Text → Text → Taken → Type 0
-Cuts inside came (taken.Passed start end place fin) = between start end came ≡ inside
-Cuts inside came taken.Empty = Unit {0}
-Cuts inside came (taken.Word place word) = Unit {0}
-Cuts inside came taken.Closed = Unit {0}
+abbrev pub Cuts : Text → Text → Answer → Type 0
+Cuts inside came (Ok (Some p)) = between p.start p.end came ≡ inside
+Cuts inside came (Ok None) = Unit {0}
+Cuts inside came (Err why) = Unit {0}
 
 -- after all that came before, the segment has come too; the answer is the outcome; and the promise for one stream holds of it all
-pub record Took (ws : List Text) (before : List Arrival) (a : Segment) (v : Value) (bytes : List ℕ) (r : Taken) : Type 0 where
+pub record Took (ws : List Text) (before : List Arrival) (a : Segment) (v : Value) (bytes : List ℕ) (r : Answer) : Type 0 where
   pub stands : Stands ws (before ++ (Arrives a ∷ [])) v
   pub answer : outcome (width v.window) ws (run (width v.window) ws blank before) a ≡ outcome_of ws bytes r
   pub cuts : Cuts (inner (width v.window) (run (width v.window) ws blank before) (piece_of a)).bytes a.bytes r

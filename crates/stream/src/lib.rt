@@ -11,4 +11,4 @@ mod taken;
 
 pub use marks::Marks;
 pub use stream::Stream;
-pub use taken::Taken;
+pub use taken::{Passed, Refused, WordAt};

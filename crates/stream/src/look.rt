@@ -8,14 +8,15 @@ ghost use Rattle.window.specs.Known.{Within, learn, onwards, overlay, piece};
 ghost use Rattle.window.specs.Window.{knows, width};
 ghost use Rattle.stream.specs.Looked.{LookOf};
 
+use crate::taken::WordAt;
 use automaton::{Finding, Table};
 use window::Window;
 
-// What the look comes to: where the text ends then, and the state of the look; or the place of the first byte that completes a word, and the word's number.
+// How far a text without words reaches: where it ends, and the state of the look there.
 #[derive(Clone, Copy, PartialEq, Eq, Debug)]
-pub enum Looked {
-    Clean { end: u64, state: u16 },
-    Word { place: u64, word: u8 },
+pub struct Reached {
+    pub end: u64,
+    pub state: u16,
 }
 
 // Looks at the bytes of a part, the known byte in place of what came.
@@ -62,7 +63,7 @@ pub(crate) fn look(
     state: u16,
     place: u64,
     part: &[u8],
-) -> Looked
+) -> Result<Reached, WordAt>
     requires within { Within window.now.low (width window.now) place (length part.now) }
     requires fits { 0 < length part.now → place + length part.now ≤ 9223372036854775808 }
     ensures { (ws : List Text) (t : Text) → TableOf ws table.now → state ≡ run ws 0 t → end ≡ length t →
@@ -71,27 +72,27 @@ pub(crate) fn look(
 {
     let reach = place + part.len() as u64;
     if place > end || reach <= end {
-        return Looked::Clean { end, state };
+        return Ok(Reached { end, state });
     }
     let new = &part[(end - place) as usize..];
     let next = match look_part(window, table, state, end, new) {
         Finding::Clean(next) => next,
         Finding::Found(i, word) => {
-            return Looked::Word {
+            return Err(WordAt {
                 place: end + i as u64,
                 word,
-            };
+            });
         }
     };
     let (first, second) = window.known_from(reach);
     match look_both(table, next, first, second) {
-        Finding::Clean(last) => Looked::Clean {
+        Finding::Clean(last) => Ok(Reached {
             end: reach + (first.len() + second.len()) as u64,
             state: last,
-        },
-        Finding::Found(i, word) => Looked::Word {
+        }),
+        Finding::Found(i, word) => Err(WordAt {
             place: reach + i as u64,
             word,
-        },
+        }),
     }
 }

@@ -59,14 +59,10 @@ impl Marks {
         ensures { result ≡ record { low = self.low; end = end; fin = or_else fin self.fin; state = state; shut = self.shut } }
     {
         Marks {
-            low: self.low,
             end,
-            fin: match fin {
-                Some(place) => Some(place),
-                None => self.fin,
-            },
+            fin: fin.or(self.fin),
             state,
-            shut: self.shut,
+            ..self
         }
     }
 

@@ -3,6 +3,7 @@ ghost use Rattle.std.specs.Prelude.{◌≡◌};
 ghost use Rattle.sequence.specs.Model.{model_of};
 ghost use Rattle.window.specs.Window.{knows, width};
 ghost use Rattle.stream.specs.Part.{PartOf, fin_may_stand, kept_if};
+ghost use Rattle.stream.specs.Stream.{places, up_to};
 
 use crate::stream::Stream;
 use sequence::Place;
@@ -19,20 +20,23 @@ pub struct Part {
 }
 
 impl Stream {
+    // Where the places end at which bytes may stand.
+    fn limit(&self) -> u64
+        ensures { result ≡ up_to self.now.marks.fin places }
+    {
+        self.marks.fin.map_or(PLACES, |f| f.min(PLACES))
+    }
+
     // The part of `len` bytes from a place on that lies in the window and before a known FIN.
     pub(crate) fn part(&self, at: Place, len: usize) -> Part
         ensures { PartOf self.now.window.low (width self.now.window) self.now.marks.fin (model_of at) len result }
     {
-        let limit = match self.marks.fin {
-            Some(f) => f.min(PLACES),
-            None => PLACES,
-        };
         // bytes below place 0 are left off
         let (first, skip) = match at {
             Place::At(i) => (i, 0),
             Place::Below(n) => (0, (n as usize).min(len)),
         };
-        let (start, end) = self.window.cut(first, len - skip, limit);
+        let (start, end) = self.window.cut(first, len - skip, self.limit());
         Part {
             start: skip + start,
             end: skip + end,
@@ -45,10 +49,7 @@ impl Stream {
         ensures { result ≡ fin_may_stand self.now.window.low (width self.now.window) self.now.marks.fin (knows self.now.window) place }
     {
         let low = self.window.low();
-        let elsewhere = match self.marks.fin {
-            Some(known) => known != place,
-            None => false,
-        };
+        let elsewhere = self.marks.fin.is_some_and(|known| known != place);
         place >= low
             && place - low < self.window.width() as u64
             && place < PLACES
@@ -60,9 +61,6 @@ impl Stream {
     pub(crate) fn kept_fin(&self, fin: Option<u64>) -> Option<u64>
         ensures { result ≡ kept_if (fin_may_stand self.now.window.low (width self.now.window) self.now.marks.fin (knows self.now.window)) fin }
     {
-        match fin {
-            Some(place) if self.fin_fits(place) => Some(place),
-            _ => None,
-        }
+        fin.filter(|place| self.fin_fits(*place))
     }
 }

@@ -10,11 +10,11 @@ ghost use Rattle.stream.specs.Steps.{Acked, Arrival, run};
 ghost use Rattle.stream.specs.Stream.{ack_limit, blank, piece_at};
 ghost use Rattle.stream.specs.Took.{Differs, Followed, Made, Took};
 
-use crate::look::{Looked, look};
+use crate::look::look;
 use crate::marks::Marks;
 use crate::part::Part;
 use crate::stream::Stream;
-use crate::taken::Taken;
+use crate::taken::{Passed, Refused};
 use automaton::Table;
 use sequence::Place;
 use std::alloc::Global;
@@ -34,16 +34,22 @@ impl Stream {
         self.window.learn(place, part);
     }
 
-    // A segment comes: its bytes, the first of them at a place, and perhaps a FIN after them.
+    // A segment comes: its bytes, the first of them at a place, and perhaps a FIN after them. Answers what goes on: nothing where neither a byte nor a FIN is left.
     // What would be new in the text is looked at first; only then is anything written.
-    pub fn take(&mut self, table: &Table, at: Place, payload: &mut [u8], fin: bool) -> Taken
+    pub fn take(
+        &mut self,
+        table: &Table,
+        at: Place,
+        payload: &mut [u8],
+        fin: bool,
+    ) -> Result<Option<Passed>, Refused>
         ensures width { width self.new.window ≡ width self.old.window }
         ensures left { Left payload.old payload.new result }
         ensures took { (ws : List Text) (before : List Arrival) → nonempty ws ≡ true → TableOf ws table.now → Stands ws before self.old →
             Took ws before (record { at = model_of at; bytes = payload.old; fin = fin }) self.new payload.new result }
     {
         if self.marks.shut {
-            return Taken::Closed;
+            return Err(Refused::Shut);
         }
         let Part { start, end, place } = self.part(at, payload.len());
         let kept = if fin {
@@ -52,35 +58,32 @@ impl Stream {
             None
         };
         let marks = self.marks;
-        match look(
+        let looked = look(
             &self.window,
             table,
             marks.end,
             marks.state,
             place,
             &payload[start..end],
-        ) {
-            Looked::Word { place, word } => {
+        );
+        let reached = match looked {
+            Ok(reached) => reached,
+            Err(word) => {
                 self.marks = marks.shut_down();
-                Taken::Word { place, word }
+                return Err(Refused::Word(word));
             }
-            Looked::Clean {
-                end: text_end,
-                state,
-            } => {
-                if start == end && kept.is_none() {
-                    return Taken::Empty;
-                }
-                self.write(place, &mut payload[start..end]);
-                self.marks = marks.grown(text_end, state, kept);
-                Taken::Passed {
-                    start,
-                    end,
-                    place,
-                    fin: kept,
-                }
-            }
+        };
+        if start == end && kept.is_none() {
+            return Ok(None);
         }
+        self.write(place, &mut payload[start..end]);
+        self.marks = marks.grown(reached.end, reached.state, kept);
+        Ok(Some(Passed {
+            start,
+            end,
+            place,
+            fin: kept,
+        }))
     }
 
     // Whether taking this segment would overwrite one of its bytes with another; nothing is written.

@@ -1,21 +1,26 @@
 // What is done with a segment.
 
+// What goes on: the part of the bytes from `start` up to `end`, its first byte at `place`, and the FIN that is kept, by its place.
 #[derive(Clone, Copy, PartialEq, Eq, Debug)]
-pub enum Taken {
-    // the part of the bytes from `start` up to `end` goes on, its first byte at `place`, and the FIN that is kept, by its place
-    Passed {
-        start: usize,
-        end: usize,
-        place: u64,
-        fin: Option<u64>,
-    },
-    // neither a byte nor a FIN is left
-    Empty,
-    // a word would stand in the text: the place of the byte that completes it, and the word's number
-    Word {
-        place: u64,
-        word: u8,
-    },
+pub struct Passed {
+    pub start: usize,
+    pub end: usize,
+    pub place: u64,
+    pub fin: Option<u64>,
+}
+
+// The first word in a text: the place of the byte that completes it, and the word's number.
+#[derive(Clone, Copy, PartialEq, Eq, Debug)]
+pub struct WordAt {
+    pub place: u64,
+    pub word: u8,
+}
+
+// Why nothing of a segment may go on.
+#[derive(Clone, Copy, PartialEq, Eq, Debug)]
+pub enum Refused {
+    // this word would stand in the text
+    Word(WordAt),
     // a word came before
-    Closed,
+    Shut,
 }

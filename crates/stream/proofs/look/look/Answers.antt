@@ -1,4 +1,4 @@
-use Rattle.std.proofs.Common.{◌≡◌, ℕ, ◌+◌, ◌-◌, ◌<◌, ◌≤◌, List, [], ◌++◌, length, None, sym, ap, ◌∙◌, inl, inr, ⊎_elim, arith}
+use Rattle.std.proofs.Common.{◌≡◌, ℕ, ◌+◌, ◌-◌, ◌<◌, ◌≤◌, List, [], ◌++◌, length, None, Ok, Err, sym, ap, ◌∙◌, inl, inr, ⊎_elim, arith}
 use Rattle.std.specs.List.{between}
 use Rattle.std.proofs.lemmas.List.{length-append, length-drop}
 use Rattle.std.proofs.lemmas.Slice.{between_to_end}
@@ -11,7 +11,6 @@ use Rattle.window.specs.Window.{knows, width}
 use Rattle.window.specs.declared.Window.{Window}
 use Rattle.window.proofs.KnownLaws.{length-overlay}
 use Rattle.stream.specs.Looked.{LookOf}
-use Rattle.stream.specs.declared.look.Looked.TheVariants as looked
 use Rattle.stream.proofs.LookLaws.{grown_by, grown_none, judged_none, length-onwards, looked_clean, looked_word}
 use Rattle.stream.proofs.WindowFacts.{knows-above, width_most}
 use Rattle.stream.proofs.look.look.Goals as goal
@@ -46,16 +45,16 @@ module _ (w : Window) (ws : List Text) (t : Text) (end place : ℕ) (bs xs ys : 
       ap (λ x. overlay (knows w) end x ++ more) (between_to_end bs (end - place) (length bs) (omega arith))
       ∙ grown_by (knows w) w.low (width w) end place bs a k (knows-above w) from to (within.below (omega arith))
 
-  found_part : (i v : ℕ) → Judged ws t part (Found i v) → LookOf ws t (onwards (width w) end (learn (piece place bs) (knows w))) (looked.Word (end + i) v)
+  found_part : (i v : ℕ) → Judged ws t part (Found i v) → LookOf ws t (onwards (width w) end (learn (piece place bs) (knows w))) (Err (record { place = end + i; word = v }))
   found_part i v j = looked_word ws t (part ++ more) _ i v (end + i) is (omega arith) (judged_on ws t part more i v j)
 
   module _ (known : xs ++ ys ≡ more) (s : ℕ) (clean : Judged ws t part (Clean s)) where
-    found_known : (i v : ℕ) → Judged ws (t ++ part) (xs ++ ys) (Found i v) → LookOf ws t (onwards (width w) end (learn (piece place bs) (knows w))) (looked.Word (place + length bs + i) v)
+    found_known : (i v : ℕ) → Judged ws (t ++ part) (xs ++ ys) (Found i v) → LookOf ws t (onwards (width w) end (learn (piece place bs) (knows w))) (Err (record { place = place + length bs + i; word = v }))
     found_known i v j =
         looked_word ws t (part ++ (xs ++ ys)) _ (length part + i) v (place + length bs + i) (ap (λ x. part ++ x) known ∙ is) (omega (arith, long))
         (judged_append ws t part (xs ++ ys) s (Found i v) clean j)
 
-    clean_known : (u : ℕ) → Judged ws (t ++ part) (xs ++ ys) (Clean u) → LookOf ws t (onwards (width w) end (learn (piece place bs) (knows w))) (looked.Clean (place + length bs + (length xs + length ys)) u)
+    clean_known : (u : ℕ) → Judged ws (t ++ part) (xs ++ ys) (Clean u) → LookOf ws t (onwards (width w) end (learn (piece place bs) (knows w))) (Ok (record { end = place + length bs + (length xs + length ys); state = u }))
     clean_known u j =
         looked_clean ws t (part ++ (xs ++ ys)) _ u (place + length bs + (length xs + length ys)) (ap (λ x. part ++ x) known ∙ is)
         (let l = length-append part (xs ++ ys) in let m = length-append xs ys in omega (arith, long)) (judged_append ws t part (xs ++ ys) s (Clean u) clean j)

@@ -1,22 +1,17 @@
-use Rattle.std.proofs.Common.{◌≡◌, max, sym, ap, ◌∙◌}
+use Rattle.std.proofs.Common.{max, ap, ◌∙◌}
 use Rattle.sequence.specs.Model.{model_of}
 use Rattle.window.specs.Window.{width}
-use Rattle.stream.specs.Stream.{places, up_to}
 use Rattle.stream.proofs.PartLaws.{Starts, part_of, starts_at, starts_below}
 use Rattle.stream.proofs.stream.Stream.part.Goals as goal
-use Rattle.stream.proofs.stream.Stream.part.Goals.{in-Some, in-None, in-At, in-Below}
+use Rattle.stream.proofs.stream.Stream.part.Goals.{in-At, in-Below}
 
 pub returns : goal.returns
 returns c =
     let code = c.args.self.now in
-    let el : c.match-self.limit ≡ up_to code.marks.fin places = elim c.match-self.branch [
-      | in-Some w ↦ w.limit-is ∙ w.min-limit.ensures ∙ ap (λ o. up_to o places) (sym w.in-Some.is)
-      | in-None w ↦ w.limit-is ∙ ap (λ o. up_to o places) (sym w.in-None.is)
-    ] in
     let es : Starts (model_of c.args.at) c.args.len c.match-at.first.0 c.match-at.first.1 = elim c.match-at.branch [
       | in-At w ↦ rw (w.first-is, w.in-At.is) (starts_at w.in-At.i c.args.len)
       | in-Below w ↦ rw (w.first-is, w.in-Below.is, w.min.ensures) (starts_below w.in-Below.n c.args.len)
     ] in
-    part_of code.window.low (width code.window) code.marks.fin (model_of c.args.at) c.args.len c.match-self.limit c.match-at.first.0 c.match-at.first.1
-    c.cut-start.result.0 c.cut-start.result.1 c.max.result el es c.cut-start.ensures.part c.cut-start.ensures.within
+    part_of code.window.low (width code.window) code.marks.fin (model_of c.args.at) c.args.len c.limit.result c.match-at.first.0 c.match-at.first.1
+    c.cut-start.result.0 c.cut-start.result.1 c.max.result c.limit.ensures es c.cut-start.ensures.part c.cut-start.ensures.within
     (c.max.ensures ∙ ap (max c.match-at.first.0) c.low.ensures)

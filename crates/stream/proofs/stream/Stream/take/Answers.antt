@@ -1,4 +1,4 @@
-use Rattle.std.proofs.Common.{◌≡◌, ◌-◌, true, length, is_some, sym, refl, ap, ◌∙◌, arith}
+use Rattle.std.proofs.Common.{◌≡◌, ◌-◌, true, length, is_some, Some, None, Ok, Err, sym, refl, ap, ◌∙◌, arith}
 use borrow.Rule.Slice.PartMut.{put_mid}
 use Rattle.std.specs.List.{between}
 use Rattle.std.proofs.lemmas.List.Edits.{length-between}
@@ -10,8 +10,7 @@ use Rattle.stream.specs.Part.{fin_may_stand, kept_if}
 use Rattle.stream.specs.Steps.{Segment, fin_left, run}
 use Rattle.stream.specs.Stream.{blank}
 use Rattle.stream.specs.declared.stream.Stream.{Stream as Value}
-use Rattle.stream.specs.declared.taken.Taken.TheVariants.{Closed, Empty, Passed, Word}
-use Rattle.stream.specs.declared.look.Looked.TheVariants as looked
+use Rattle.stream.specs.declared.taken.Refused.TheVariants.{Shut, Word}
 use Rattle.stream.proofs.Kept.{promise}
 use Rattle.stream.proofs.TakeLaws.{closed-outcome, empty-outcome, fin_kept, fin_none, looks, part_inside, passed-outcome, passed_shown, shut_shown, text_ends_lem, text_low, took, word-outcome}
 use Rattle.stream.proofs.stream.Stream.take.Goals as goal
@@ -24,7 +23,7 @@ returns-then-self c = record {
   took = λ ws before ne tb st.
       let v = c.args.self.now in
       let a : Segment = record { at = model_of c.args.at; bytes = c.args.payload.now; fin = c.args.fin } in
-      took ws before a (width v.window) v c.args.payload.now Closed ne refl
+      took ws before a (width v.window) v c.args.payload.now (Err Shut) ne refl
       (closed-outcome (width v.window) ws (run (width v.window) ws blank before) a (sym st.shut ∙ c.if-self.true)) st tt;
 }
 
@@ -39,20 +38,20 @@ returns-then-is_none c = record {
       let so = (promise (width v.window) ws ne before).sound in
       let r = c.part-start.result in
       let pa = c.part-start.ensures in
-      let l = looks ws s v a r st so pa (looked.Clean c.in-Clean.text_end c.in-Clean.state) (c.in-Clean.ensures ws s.text tb st.state st.end (text_low ws s v a r st so pa) (text_ends_lem ws s v a r st so pa)) in
+      let l = looks ws s v a r st so pa (Ok c.in-Ok.reached) (c.in-Ok.ensures ws s.text tb st.state st.end (text_low ws s v a r st so pa) (text_ends_lem ws s v a r st so pa)) in
       let ek : c.if-fin.kept ≡ fin_left (width v.window) s a = elim c.if-fin.branch [
         | then-fin w ↦
             w.kept-is ∙ w.kept_fin-kept.ensures
             ∙ ap (kept_if (fin_may_stand v.window.low (width v.window) v.marks.fin (knows v.window))) w.after.ensures ∙ fin_kept ws s v a r st so pa w.if-fin.true
         | else-fin w ↦ w.kept-is ∙ fin_none ws s v a r st so pa w.if-fin.false
       ] in
-      took ws before a (width v.window) v c.args.payload.now Empty ne refl
-      (empty-outcome ws s v a r st so pa (sym st.shut ∙ c.if-self.false) c.in-Clean.text_end c.in-Clean.state l c.if-fin.kept ek
+      took ws before a (width v.window) v c.args.payload.now (Ok None) ne refl
+      (empty-outcome ws s v a r st so pa (sym st.shut ∙ c.if-self.false) c.in-Ok.reached l c.if-fin.kept ek
       c.if-start-end.true c.if-is_none.ensures) st tt;
 }
 
-pub returns-in-Word : goal.returns-in-Word
-returns-in-Word c = record {
+pub returns-in-Err : goal.returns-in-Err
+returns-in-Err c = record {
   width = refl;
   left = refl;
   took = λ ws before ne tb st.
@@ -62,14 +61,14 @@ returns-in-Word c = record {
       let so = (promise (width v.window) ws ne before).sound in
       let r = c.part-start.result in
       let pa = c.part-start.ensures in
-      let l = looks ws s v a r st so pa (looked.Word c.in-Word.place c.in-Word.word) (c.in-Word.ensures ws s.text tb st.state st.end (text_low ws s v a r st so pa) (text_ends_lem ws s v a r st so pa)) in
-      took ws before a (width v.window) (record { window = v.window; marks = c.shut_down-self.result }) c.args.payload.now (Word c.in-Word.place c.in-Word.word) ne refl
-      (word-outcome ws s v a r st so pa (sym st.shut ∙ c.if-self.false) c.in-Word.place c.in-Word.word l)
+      let l = looks ws s v a r st so pa (Err c.in-Err.word) (c.in-Err.ensures ws s.text tb st.state st.end (text_low ws s v a r st so pa) (text_ends_lem ws s v a r st so pa)) in
+      took ws before a (width v.window) (record { window = v.window; marks = c.shut_down-self.result }) c.args.payload.now (Err (Word c.in-Err.word)) ne refl
+      (word-outcome ws s v a r st so pa (sym st.shut ∙ c.if-self.false) c.in-Err.word l)
       (shut_shown ws s v a r st so pa (record { window = v.window; marks = c.shut_down-self.result }) refl c.shut_down-self.ensures) tt;
 }
 
-pub returns-else-start-end : goal.returns-else-start-end
-returns-else-start-end c =
+pub returns : goal.returns
+returns c =
     let r = c.part-start.result in
     let pa = c.part-start.ensures in
     let payload = c.args.payload.now in
@@ -88,8 +87,8 @@ returns-else-start-end c =
           let a : Segment = record { at = model_of c.args.at; bytes = payload; fin = c.args.fin } in
           let s = run (width v.window) ws blank before in
           let so = (promise (width v.window) ws ne before).sound in
-          let l = looks ws s v a r st so pa (looked.Clean c.in-Clean.text_end c.in-Clean.state)
-          (c.in-Clean.ensures ws s.text tb st.state st.end (text_low ws s v a r st so pa) (text_ends_lem ws s v a r st so pa)) in
+          let l = looks ws s v a r st so pa (Ok c.in-Ok.reached)
+          (c.in-Ok.ensures ws s.text tb st.state st.end (text_low ws s v a r st so pa) (text_ends_lem ws s v a r st so pa)) in
           let ek : c.if-fin.kept ≡ fin_left (width v.window) s a = elim c.if-fin.branch [
             | then-fin w ↦
                 w.kept-is ∙ w.kept_fin-kept.ensures
@@ -103,9 +102,9 @@ returns-else-start-end c =
           let bytes = put_mid r.start (r.end - r.start) payload c.write.new.part in
           let v' : Value = record { window = c.write.new.self.window; marks = c.grown-self.result } in
           let is_open = sym st.shut ∙ c.if-self.false in
-          took ws before a (width v.window) v' bytes (Passed r.start r.end r.place c.if-fin.kept) ne c.write.ensures.width
-          (passed-outcome ws s v a r st so pa is_open c.in-Clean.text_end c.in-Clean.state l c.if-fin.kept ek (between r.start r.end bytes)
+          took ws before a (width v.window) v' bytes (Ok (Some (record { start = r.start; end = r.end; place = r.place; fin = c.if-fin.kept }))) ne c.write.ensures.width
+          (passed-outcome ws s v a r st so pa is_open c.in-Ok.reached l c.if-fin.kept ek (between r.start r.end bytes)
           (between-put_mid r.start (r.end - r.start) payload c.write.new.part r.end (omega (arith, pa.ordered, pa.ends)) n ∙ c.write.ensures.part) some)
-          (passed_shown ws s v a r st so pa is_open c.in-Clean.text_end c.in-Clean.state l c.if-fin.kept ek v' c.grown-self.ensures c.write.ensures.low c.write.ensures.width c.write.ensures.known)
+          (passed_shown ws s v a r st so pa is_open c.in-Ok.reached l c.if-fin.kept ek v' c.grown-self.ensures c.write.ensures.low c.write.ensures.width c.write.ensures.known)
           (part_inside ws s v a r st so pa);
     }
