@@ -1,8 +1,9 @@
 -- A sender's segment goes on as decided.
 -- Assumes nothing.
-use Rattle.std.proofs.Common.{◌≡◌, ℕ, ◌+◌, ◌-◌, ◌*◌, ◌/◌, ◌≤◌, Bool, true, false, cond, ltb, ◌⊎◌, [], ◌∷◌, ◌++◌, length, take, drop, is_some, Some, None, Ok, Err, Option, Result, sym, refl, ap, ◌∙◌, subst, inl, inr, arith, take-add}
+use Rattle.std.proofs.Common.{◌≡◌, ℕ, ◌+◌, ◌-◌, ◌*◌, ◌/◌, ◌≤◌, Bool, true, false, cond, ltb, [], ◌∷◌, ◌++◌, length, take, drop, is_some, Some, None, Ok, Err, Option, Result, sym, refl, ap, ◌∙◌, subst, inl, inr, arith, take-add}
 use borrow.Rule.Slice.PartMut.{put_mid, post_of}
 use Rattle.std.specs.List.{between}
+use Rattle.std.specs.Option.{option_or}
 use Rattle.std.proofs.lemmas.List.{append-nil, drop_all, drop_at, drop-drop, length-append, length-drop, length-take, take-append-drop, take-take}
 use Rattle.std.proofs.lemmas.Slice.{between_to_end, take-put_mid_below}
 use Rattle.std.proofs.lemmas.List.Edits.{length-between}
@@ -31,26 +32,31 @@ use Rattle.stream.specs.Stream as streams
 use Rattle.stream.specs.Stream.{Stream, blank, inner, passed_part, places}
 use Rattle.stream.specs.Took.{Cuts, Differs, Took}
 use Rattle.stream.specs.declared.stream.Stream.{Stream as StreamValue}
-use Rattle.stream.specs.declared.taken.Taken.{Taken}
-use Rattle.stream.specs.declared.taken.Taken.TheVariants as taken
+use Rattle.stream.specs.declared.taken.Passed.{Passed as Part}
+use Rattle.stream.specs.declared.taken.Refused.{Refused as Untaken}
+use Rattle.stream.specs.declared.taken.Refused.TheVariants as untaken
 use Rattle.stream.proofs.Kept.{promise}
 use Rattle.stream.proofs.MarkLaws.{text_fits}
 use Rattle.stream.proofs.Outcomes.{Done, closed, done, empty, passes, word}
 use Rattle.stream.proofs.TakeLaws.{run_push}
 use Rattle.filter.specs.Config.{Config, Key, Looms}
 use Rattle.filter.specs.Decide.{advanced, marks_left, number_left, on_outcome, on_segment, packet_left, segment_at}
-use Rattle.filter.specs.Forwards.{Edits, number_of_fin}
+use Rattle.filter.specs.Forwards.{edit_left, first_byte, number_at}
 use Rattle.filter.specs.Gate.{Connection}
+use Rattle.filter.specs.Dropped.{dropped_for}
 use Rattle.filter.specs.Gate as gate
 use Rattle.filter.specs.Held.{Handles, Held, Left}
 use Rattle.filter.specs.Verdict.{Refuse, Update}
 use Rattle.filter.specs.declared.verdict.Refusal.TheVariants as refusal
-use Rattle.filter.specs.declared.verdict.Verdict.{Verdict}
-use Rattle.filter.specs.declared.verdict.Verdict.TheVariants as verdict
+use Rattle.filter.specs.declared.verdict.Refusal.{Refusal}
+use Rattle.filter.specs.declared.verdict.Dropped.TheVariants as dropped
 use Rattle.filter.specs.declared.connection.Connection.{Connection as Value}
 
 ok_is : {A B : Type 0} {x y : A} → ◌≡◌ {A = Result A B} (Ok x) (Ok y) → x ≡ y
 ok_is e = cc
+
+err_is : {A B : Type 0} {x y : B} → ◌≡◌ {A = Result A B} (Err x) (Err y) → x ≡ y
+err_is e = cc
 
 pub payload_length : (old : Bytes) (start : ℕ) → length (between start (length old) old) ≡ length old - start
 payload_length old start = ap length (between_to_end old start (length old) (omega arith)) ∙ length-drop start old
@@ -109,8 +115,12 @@ module _ (old rest : Bytes) (start : ℕ) (l : start ≤ length old) (n : length
   pub rest_same : new ≡ old → rest ≡ drop start old
   rest_same e = sym drop_start ∙ ap (drop start) e
 
-  -- the lent buffer, by what the stream answered
-  module _ (first : ℕ) (sg : Seg) (es : sg.payload ≡ start) (t : Taken) (left : stream.Left (between start (length old) old) rest t) where
+  -- a buffer of whose payload nothing was overwritten
+  pub untaken_left : rest ≡ between start (length old) old → new ≡ old
+  untaken_left e = same_new (e ∙ between_to_end old start (length old) (omega arith))
+
+  -- the lent buffer, by what is passed of the segment
+  module _ (first : ℕ) (sg : Seg) (es : sg.payload ≡ start) (t : Option Part) (left : stream.Left (between start (length old) old) rest (Ok t)) where
     payload_is : between start (length old) old ≡ drop start old
     payload_is = between_to_end old start (length old) (omega arith)
 
@@ -122,48 +132,39 @@ module _ (old rest : Bytes) (start : ℕ) (l : start ≤ length old) (n : length
     back_same : (j : ℕ) → drop j rest ≡ drop j (between start (length old) old) → drop (start + j) new ≡ drop (start + j) old
     back_same j e = drop_new j ∙ e ∙ ap (drop j) payload_is ∙ drop-drop j start old
 
-    pub edit_within : 40 ≤ start → start ≡ head_length old → (edit : Edit) → Edits first sg (length old) t (Ok edit) → Within new edit.start edit.end
+    pub edit_within : 40 ≤ start → start ≡ head_length old → (edit : Edit) → edit_left first sg t ≡ Ok edit → Within new edit.start edit.end
     edit_within h eh edit ed = go t left ed
       where
-        go : (u : Taken) → stream.Left (between start (length old) old) rest u → Edits first sg (length old) u (Ok edit) → Within new edit.start edit.end
-        go (taken.Word place w) q f = absurd (let z : ◌≡◌ {A = ℕ} 0 1 = cc in omega arith)
-        go taken.Closed q f = absurd (let z : ◌≡◌ {A = ℕ} 0 1 = cc in omega arith)
-        go (taken.Passed from to place fin) q f =
-            let ea : edit.start ≡ start + from = ap (λ d. d.start) (ok_is f) ∙ ap (λ i. i + from) es in
-            let ee : edit.end ≡ start + to = ap (λ d. d.end) (ok_is f) ∙ ap (λ i. i + to) es in
-            let lt : to ≤ length (between start (length old) old) = q.1 in
-            rw (ea, ee) (within_new h eh from to q.0 (omega (arith, payload_length old start)))
-        go taken.Empty q f = elim (cases_Bool sg.marks.ack) [
-          | inr b ↦ absurd (let g = f ∙ cond-false sg.marks.ack _ (Err (verdict.Drop refusal.Empty)) b in let z : ◌≡◌ {A = ℕ} 0 1 = cc in omega arith)
+        go : (u : Option Part) → stream.Left (between start (length old) old) rest (Ok u) → edit_left first sg u ≡ Ok edit → Within new edit.start edit.end
+        go (Some p) q f =
+            let ea : edit.start ≡ start + p.start = ap (λ d. d.start) (sym (ok_is f)) ∙ ap (λ i. i + p.start) es in
+            let ee : edit.end ≡ start + p.end = ap (λ d. d.end) (sym (ok_is f)) ∙ ap (λ i. i + p.end) es in
+            let lt : p.end ≤ length (between start (length old) old) = q.1 in
+            rw (ea, ee) (within_new h eh p.start p.end q.0 (omega (arith, payload_length old start)))
+        go None q f = elim (cases_Bool sg.marks.ack) [
+          | inr b ↦ absurd (let g = sym f ∙ cond-false sg.marks.ack _ (Err refusal.Empty) b in let z : ◌≡◌ {A = ℕ} 0 1 = cc in omega arith)
           | inl b ↦
-              let g = ok_is (f ∙ cond-true sg.marks.ack _ (Err (verdict.Drop refusal.Empty)) b) in
+              let g = ok_is (sym f ∙ cond-true sg.marks.ack _ (Err refusal.Empty) b) in
               let ea : edit.start ≡ start + 0 = ap (λ d. d.start) g ∙ es ∙ omega arith in
               let ee : edit.end ≡ start + 0 = ap (λ d. d.end) g ∙ es ∙ omega arith in
               rw (ea, ee) (within_new h eh 0 0 (omega arith) (omega arith))
         ]
 
-    pub err_left : (r : Verdict) → Edits first sg (length old) t (Err r) → Left old new r
-    err_left r ed = go t left ed
+    -- a segment of which nothing is left is as it came
+    pub err_left : (why : Refusal) → edit_left first sg t ≡ Err why → new ≡ old
+    err_left why ed = go t left ed
       where
-        go : (u : Taken) → stream.Left (between start (length old) old) rest u → Edits first sg (length old) u (Err r) → Left old new r
-        go (taken.Passed from to place fin) q f = absurd (let z : ◌≡◌ {A = ℕ} 0 1 = cc in omega arith)
-        go (taken.Word place w) q f = let er : verdict.Word place w ≡ r = cc in subst (Left old new) er (same_new (q ∙ payload_is))
-        go taken.Closed q f = let er : verdict.Drop refusal.Shut ≡ r = cc in subst (Left old new) er (same_new (q ∙ payload_is))
-        go taken.Empty q f = elim (cases_Bool sg.marks.ack) [
-          | inl b ↦ absurd (let g = f ∙ cond-true sg.marks.ack _ (Err (verdict.Drop refusal.Empty)) b in let z : ◌≡◌ {A = ℕ} 0 1 = cc in omega arith)
-          | inr b ↦
-              let g = f ∙ cond-false sg.marks.ack (Ok (record { number = sg.number; acknowledged = sg.acknowledged; marks = sg.marks.raw / 2 * 2; start = sg.payload; end = sg.payload })) (Err (verdict.Drop refusal.Empty)) b in
-              let er : verdict.Drop refusal.Empty ≡ r = cc in
-              subst (Left old new) er (same_new (q ∙ payload_is))
-        ]
+        go : (u : Option Part) → stream.Left (between start (length old) old) rest (Ok u) → edit_left first sg u ≡ Err why → new ≡ old
+        go (Some p) q f = absurd (let z : ◌≡◌ {A = ℕ} 0 1 = cc in omega arith)
+        go None q f = same_new (q ∙ payload_is)
 
     -- outside the part that goes out the buffer is as it came
-    pub pass_left : 40 ≤ start → start ≡ head_length old → (edit : Edit) → Edits first sg (length old) t (Ok edit) → (exit : Bytes) (a e : ℕ) → Moved new exit edit.start edit.end a e → Left old exit (verdict.Pass a e)
+    pub pass_left : 40 ≤ start → start ≡ head_length old → (edit : Edit) → edit_left first sg t ≡ Ok edit → (exit : Bytes) (a e : ℕ) → Moved new exit edit.start edit.end a e → Left old exit (Ok (record { start = a; end = e }))
     pass_left h eh edit ed exit a e mv = go t left ed
       where
         -- from the front of the part on, and behind its end, nothing was overwritten
         outside : (from to : ℕ) → from ≤ to → start + to ≤ length old → edit.start ≡ start + from → edit.end ≡ start + to →
-            take (start + from) new ≡ take (start + from) old → drop (start + to) new ≡ drop (start + to) old → Left old exit (verdict.Pass a e)
+            take (start + from) new ≡ take (start + from) old → drop (start + to) new ≡ drop (start + to) old → Left old exit (Ok (record { start = a; end = e }))
         outside from to o m ea ee et ed =
             let ha : a ≡ from = omega (arith, mv.from, head_new h) in
             let he : e ≡ start + to = mv.to ∙ ee in
@@ -175,17 +176,15 @@ module _ (old rest : Bytes) (start : ℕ) (l : start ≤ length old) (n : length
                   ∙ drop-drop (to - from) (start + from) new ∙ ap (λ i. drop i new) es ∙ ed ∙ ap (λ i. drop i old) (sym he),
             )
 
-        go : (u : Taken) → stream.Left (between start (length old) old) rest u → Edits first sg (length old) u (Ok edit) → Left old exit (verdict.Pass a e)
-        go (taken.Word place w) q f = absurd (let z : ◌≡◌ {A = ℕ} 0 1 = cc in omega arith)
-        go taken.Closed q f = absurd (let z : ◌≡◌ {A = ℕ} 0 1 = cc in omega arith)
-        go (taken.Passed from to place fin) q f =
-            let lt : to ≤ length (between start (length old) old) = q.1 in
-            outside from to q.0 (omega (arith, payload_length old start)) (ap (λ d. d.start) (ok_is f) ∙ ap (λ i. i + from) es) (ap (λ d. d.end) (ok_is f) ∙ ap (λ i. i + to) es)
-            (front_same from q.2) (back_same to q.3)
-        go taken.Empty q f = elim (cases_Bool sg.marks.ack) [
-          | inr b ↦ absurd (let g = f ∙ cond-false sg.marks.ack _ (Err (verdict.Drop refusal.Empty)) b in let z : ◌≡◌ {A = ℕ} 0 1 = cc in omega arith)
+        go : (u : Option Part) → stream.Left (between start (length old) old) rest (Ok u) → edit_left first sg u ≡ Ok edit → Left old exit (Ok (record { start = a; end = e }))
+        go (Some p) q f =
+            let lt : p.end ≤ length (between start (length old) old) = q.1 in
+            outside p.start p.end q.0 (omega (arith, payload_length old start)) (ap (λ d. d.start) (sym (ok_is f)) ∙ ap (λ i. i + p.start) es) (ap (λ d. d.end) (sym (ok_is f)) ∙ ap (λ i. i + p.end) es)
+            (front_same p.start q.2) (back_same p.end q.3)
+        go None q f = elim (cases_Bool sg.marks.ack) [
+          | inr b ↦ absurd (let g = sym f ∙ cond-false sg.marks.ack _ (Err refusal.Empty) b in let z : ◌≡◌ {A = ℕ} 0 1 = cc in omega arith)
           | inl b ↦
-              let g = ok_is (f ∙ cond-true sg.marks.ack _ (Err (verdict.Drop refusal.Empty)) b) in
+              let g = ok_is (sym f ∙ cond-true sg.marks.ack _ (Err refusal.Empty) b) in
               outside 0 0 (omega arith) (omega arith) (ap (λ d. d.start) g ∙ es ∙ omega arith) (ap (λ d. d.end) g ∙ es ∙ omega arith) (front_same 0 (ap (take 0) q)) (back_same 0 (ap (drop 0) q))
         ]
 
@@ -225,26 +224,26 @@ module _ (c : Config) (m : Connection) (v : Value) (h : Held c m v) where
         (subst (λ (s : Stream). Differs c.width s (piece_of came) b) (sym h.history)
         (subst (λ (w : ℕ). Differs w (run w c.words blank h.before) (piece_of came) b) h.wide d))
 
-    module _ (s' : StreamValue) (rest : Bytes) (t : Taken) (ew : width s'.window ≡ width v.stream.window) (took : Took c.words h.before came s' rest t) where
+    module _ (s' : StreamValue) (rest : Bytes) (r : stream.Answer) (ew : width s'.window ≡ width v.stream.window) (took : Took c.words h.before came s' rest r) where
       wide : width s'.window ≡ c.width
       wide = ew ∙ h.wide
 
-      answer : outcome c.width c.words m.stream (segment_at m (packet old)) ≡ outcome_of c.words rest t
+      answer : outcome c.width c.words m.stream (segment_at m (packet old)) ≡ outcome_of c.words rest r
       answer =
           sym (ap (outcome c.width c.words m.stream) came_is) ∙ ap (λ s. outcome c.width c.words s came) h.history
           ∙ sym (ap (λ w. outcome w c.words (run w c.words blank h.before) came) wide) ∙ took.answer
 
-      pub decided : (k : Key) → on_segment c k m (packet old) ≡ on_outcome c k m (packet old) (outcome_of c.words rest t)
+      pub decided : (k : Key) → on_segment c k m (packet old) ≡ on_outcome c k m (packet old) (outcome_of c.words rest r)
       decided k = ap (on_outcome c k m (packet old)) answer
 
-      pub cuts : Cuts (inner c.width m.stream (piece_of (segment_at m (packet old)))).bytes (between sg.payload (length old) old) t
+      pub cuts : Cuts (inner c.width m.stream (piece_of (segment_at m (packet old)))).bytes (between sg.payload (length old) old) r
       cuts =
-          subst (λ (a : Segment). Cuts (inner c.width m.stream (piece_of a)).bytes (between sg.payload (length old) old) t) came_is
-          (subst (λ (s : Stream). Cuts (inner c.width s (piece_of came)).bytes (between sg.payload (length old) old) t) (sym h.history)
-          (subst (λ (w : ℕ). Cuts (inner w (run w c.words blank h.before) (piece_of came)).bytes (between sg.payload (length old) old) t) wide took.cuts))
+          subst (λ (a : Segment). Cuts (inner c.width m.stream (piece_of a)).bytes (between sg.payload (length old) old) r) came_is
+          (subst (λ (s : Stream). Cuts (inner c.width s (piece_of came)).bytes (between sg.payload (length old) old) r) (sym h.history)
+          (subst (λ (w : ℕ). Cuts (inner w (run w c.words blank h.before) (piece_of came)).bytes (between sg.payload (length old) old) r) wide took.cuts))
 
       -- what is held then
-      pub held : (m' : Connection) (v' : Value) → v'.stream ≡ s' → m'.stream ≡ after c.width m.stream (segment_at m (packet old)) (outcome_of c.words rest t) →
+      pub held : (m' : Connection) (v' : Value) → v'.stream ≡ s' → m'.stream ≡ after c.width m.stream (segment_at m (packet old)) (outcome_of c.words rest r) →
           v'.first ≡ m'.first → v'.opening ≡ m'.opening → v'.last_ack ≡ m'.last_ack → v'.left ≡ m'.left → Held c m' v'
       held m' v' es em e1 e2 e3 e4 = record {
         first = e1;
@@ -280,18 +279,18 @@ module _ (c : Config) (m : Connection) (v : Value) (h : Held c m v) where
       left_passed = passed_part c.width m.stream (piece_of (segment_at m (packet old)))
 
       -- of a piece that is passed on, these are its bytes
-      passed_part_lem : (from to place : ℕ) (fin : Option ℕ) → t ≡ taken.Passed from to place fin → left_passed ≡ between from to rest
-      passed_part_lem from to place fin et = go (outcome c.width c.words m.stream (segment_at m (packet old))) (done c.width c.words m.stream (segment_at m (packet old)))
-          (answer ∙ ap (outcome_of c.words rest) et)
+      passed_part_lem : (p : Part) → r ≡ Ok (Some p) → left_passed ≡ between p.start p.end rest
+      passed_part_lem p er = go (outcome c.width c.words m.stream (segment_at m (packet old))) (done c.width c.words m.stream (segment_at m (packet old)))
+          (answer ∙ ap (outcome_of c.words rest) er)
         where
-          go : (o : Outcome) → Done c.width c.words m.stream (segment_at m (packet old)) o → o ≡ Passed (record { at = place; bytes = between from to rest }) fin → left_passed ≡ between from to rest
+          go : (o : Outcome) → Done c.width c.words m.stream (segment_at m (packet old)) o → o ≡ Passed (record { at = p.place; bytes = between p.start p.end rest }) p.fin → left_passed ≡ between p.start p.end rest
           go _ (closed e) f = absurd (let z : ◌≡◌ {A = ℕ} 0 1 = cc in omega arith)
           go _ (word e found l) f = absurd (let z : ◌≡◌ {A = ℕ} 0 1 = cc in omega arith)
           go _ (empty e l n k) f = absurd (let z : ◌≡◌ {A = ℕ} 0 1 = cc in omega arith)
-          go _ (passes e l) f = let p : piece_left c.width m.stream (segment_at m (packet old)) ≡ record { at = place; bytes = between from to rest } = cc in ap (λ (q : Piece). q.bytes) p
+          go _ (passes e l) f = let q : piece_left c.width m.stream (segment_at m (packet old)) ≡ record { at = p.place; bytes = between p.start p.end rest } = cc in ap (λ (x : Piece). x.bytes) q
 
-      empty_part : t ≡ taken.Empty → left_passed ≡ left_inside
-      empty_part et = go (outcome c.width c.words m.stream (segment_at m (packet old))) (done c.width c.words m.stream (segment_at m (packet old))) (answer ∙ ap (outcome_of c.words rest) et)
+      empty_part : r ≡ Ok None → left_passed ≡ left_inside
+      empty_part er = go (outcome c.width c.words m.stream (segment_at m (packet old))) (done c.width c.words m.stream (segment_at m (packet old))) (answer ∙ ap (outcome_of c.words rest) er)
         where
           go : (o : Outcome) → Done c.width c.words m.stream (segment_at m (packet old)) o → o ≡ Empty → left_passed ≡ left_inside
           go _ (closed e) f = absurd (let z : ◌≡◌ {A = ℕ} 0 1 = cc in omega arith)
@@ -299,90 +298,82 @@ module _ (c : Config) (m : Connection) (v : Value) (h : Held c m v) where
           go _ (passes e l) f = absurd (let z : ◌≡◌ {A = ℕ} 0 1 = cc in omega arith)
           go _ (empty e l n k) f = n ∙ sym (length-nil left_inside (sym (length-overlay m.stream.known (inner c.width m.stream (piece_of (segment_at m (packet old)))).at left_inside) ∙ ap length n))
 
-      module _ (left : stream.Left payload rest t) where
+      module _ (t : Option Part) (er : r ≡ Ok t) (left : stream.Left payload rest (Ok t)) where
         kept_same : left_passed ≡ left_inside → rest ≡ payload
-        kept_same e = go t refl left cuts
+        kept_same e = go t er left (subst (Cuts left_inside payload) er cuts)
           where
-            go : (u : Taken) → t ≡ u → stream.Left payload rest u → Cuts left_inside payload u → rest ≡ payload
-            go (taken.Passed from to place fin) et l k = parts_same from to l.0 l.1 l.2 l.3 (sym (passed_part_lem from to place fin et) ∙ e ∙ sym k)
-            go taken.Empty et l k = l
-            go (taken.Word place w) et l k = l
-            go taken.Closed et l k = l
+            go : (u : Option Part) → r ≡ Ok u → stream.Left payload rest (Ok u) → Cuts left_inside payload (Ok u) → rest ≡ payload
+            go (Some p) eu l k = parts_same p.start p.end l.0 l.1 l.2 l.3 (sym (passed_part_lem p eu) ∙ e ∙ sym k)
+            go None eu l k = l
 
-        not_changed : (t ≡ taken.Empty) ⊎ ((from : ℕ) × (to : ℕ) × (place : ℕ) × (fin : Option ℕ) × (t ≡ taken.Passed from to place fin)) → rest ≡ payload → left_passed ≡ left_inside
-        not_changed (inl e) f = empty_part e
-        not_changed (inr (from, to, place, fin, e)) f =
-            passed_part_lem from to place fin e ∙ ap (between from to) f ∙ subst (λ (u : Taken). Cuts left_inside payload u) e cuts
+        not_changed : rest ≡ payload → left_passed ≡ left_inside
+        not_changed f = go t er (subst (Cuts left_inside payload) er cuts)
+          where
+            go : (u : Option Part) → r ≡ Ok u → Cuts left_inside payload (Ok u) → left_passed ≡ left_inside
+            go (Some p) eu k = passed_part_lem p eu ∙ ap (between p.start p.end) f ∙ k
+            go None eu k = empty_part eu
 
-      -- something goes on only of a segment that was passed, or of which nothing is left
-      goes_on : (edit : Edit) → Edits v.first sg (length old) t (Ok edit) → (t ≡ taken.Empty) ⊎ ((from : ℕ) × (to : ℕ) × (place : ℕ) × (fin : Option ℕ) × (t ≡ taken.Passed from to place fin))
-      goes_on edit ed = go t refl ed
-        where
-          go : (u : Taken) → t ≡ u → Edits v.first sg (length old) u (Ok edit) → (t ≡ taken.Empty) ⊎ ((from : ℕ) × (to : ℕ) × (place : ℕ) × (fin : Option ℕ) × (t ≡ taken.Passed from to place fin))
-          go (taken.Passed from to place fin) et f = inr (from, to, place, fin, et)
-          go taken.Empty et f = inl et
-          go (taken.Word place w) et f = absurd (let z : ◌≡◌ {A = ℕ} 0 1 = cc in omega arith)
-          go taken.Closed et f = absurd (let z : ◌≡◌ {A = ℕ} 0 1 = cc in omega arith)
+        -- the patch says what was overwritten
+        pub patched : (b : Bool) → Differs c.width m.stream (piece_of (segment_at m (packet old))) b →
+            (patch : Patch) → (b ≡ true → Before old sg.payload (length old) patch) → (b ≡ false → (p : Bytes) → Overwritten p p patch) →
+            sg.payload ≤ length old → length rest ≡ length old - sg.payload → Overwritten old (put_mid sg.payload (length old - sg.payload) old rest) patch
+        patched true d patch known nothing l n =
+            overwritten old rest sg.payload (length old) patch (known refl) l (omega arith) n (λ e. d (not_changed e))
+        patched false d patch known nothing l n =
+            subst (λ (x : Bytes). Overwritten old x patch)
+            (sym (same_new old rest sg.payload l n (kept_same d ∙ between_to_end old sg.payload (length old) (omega arith)))) (nothing refl old)
 
-      -- the patch says what was overwritten
-      pub patched : (b : Bool) → Differs c.width m.stream (piece_of (segment_at m (packet old))) b → stream.Left payload rest t → (edit : Edit) → Edits v.first sg (length old) t (Ok edit) →
-          (patch : Patch) → (b ≡ true → Before old sg.payload (length old) patch) → (b ≡ false → (p : Bytes) → Overwritten p p patch) →
-          sg.payload ≤ length old → length rest ≡ length old - sg.payload → Overwritten old (put_mid sg.payload (length old - sg.payload) old rest) patch
-      patched true d left edit ed patch known nothing l n =
-          overwritten old rest sg.payload (length old) patch (known refl) l (omega arith) n (λ e. d (not_changed left (goes_on edit ed) e))
-      patched false d left edit ed patch known nothing l n =
-          subst (λ (x : Bytes). Overwritten old x patch)
-          (sym (same_new old rest sg.payload l n (kept_same left d ∙ between_to_end old sg.payload (length old) (omega arith)))) (nothing refl old)
-
-      -- The verdicts
+      -- The answers
 
       -- the numbers of what is held, where only the stream changes
       same-held : (m' : Connection) (v' : Value) → v'.stream ≡ s' → v'.first ≡ v.first → v'.opening ≡ v.opening → v'.last_ack ≡ v.last_ack → v'.left ≡ v.left →
-          m'.stream ≡ after c.width m.stream (segment_at m (packet old)) (outcome_of c.words rest t) →
+          m'.stream ≡ after c.width m.stream (segment_at m (packet old)) (outcome_of c.words rest r) →
           m'.first ≡ m.first → m'.opening ≡ m.opening → m'.last_ack ≡ m.last_ack → m'.left ≡ m.left → Held c m' v'
       same-held m' v' es e1 e2 e3 e4 em f1 f2 f3 f4 =
           held m' v' es em (e1 ∙ h.first ∙ sym f1) (e2 ∙ h.opening ∙ sym f2) (e3 ∙ h.last_ack ∙ sym f3) (e4 ∙ h.left ∙ sym f4)
 
-      pub handles_err : (k : Key) (new : Bytes) (r : Verdict) (v' : Value) → Edits v.first sg (length old) t (Err r) →
-          v'.stream ≡ s' → v'.first ≡ v.first → v'.opening ≡ v.opening → v'.last_ack ≡ v.last_ack → v'.left ≡ v.left → Handles c k m (packet old) new v' r
-      handles_err k new r v' ed es e1 e2 e3 e4 = go t refl ed
-        where
-          go : (u : Taken) → t ≡ u → Edits v.first sg (length old) u (Err r) → Handles c k m (packet old) new v' r
-          go (taken.Passed from to place fin) et f = absurd (let z : ◌≡◌ {A = ℕ} 0 1 = cc in omega arith)
-          go (taken.Word place w) et f =
-              let er : verdict.Word place w ≡ r = cc in
-              subst (Handles c k m (packet old) new v') er (
-                decided k ∙ ap (λ u. on_outcome c k m (packet old) (outcome_of c.words rest u)) et,
-                same-held (gate.closed m) v' es e1 e2 e3 e4 (sym (ap (λ u. after c.width m.stream (segment_at m (packet old)) (outcome_of c.words rest u)) et)) refl refl refl refl,
+      module _ (k : Key) (new : Bytes) (v' : Value) (es : v'.stream ≡ s') (e1 : v'.first ≡ v.first) (e2 : v'.opening ≡ v.opening) (e3 : v'.last_ack ≡ v.last_ack) (e4 : v'.left ≡ v.left) where
+        -- the stream takes nothing of the segment
+        pub handles_untaken : (why : Untaken) → r ≡ Err why → Handles c k m (packet old) new v' (Err (dropped_for why))
+        handles_untaken (untaken.Word w) er = (
+          decided k ∙ ap (λ u. on_outcome c k m (packet old) (outcome_of c.words rest u)) er,
+          same-held (gate.closed m) v' es e1 e2 e3 e4 (sym (ap (λ u. after c.width m.stream (segment_at m (packet old)) (outcome_of c.words rest u)) er)) refl refl refl refl,
+        )
+        handles_untaken untaken.Shut er = (
+          decided k ∙ ap (λ u. on_outcome c k m (packet old) (outcome_of c.words rest u)) er,
+          same-held m v' es e1 e2 e3 e4 (sym (ap (λ u. after c.width m.stream (segment_at m (packet old)) (outcome_of c.words rest u)) er)) refl refl refl refl,
+        )
+
+        -- nothing is left of the segment, and it acknowledges nothing
+        pub handles_empty : (t : Option Part) (why : Refusal) → r ≡ Ok t → edit_left v.first sg t ≡ Err why → Handles c k m (packet old) new v' (Err (dropped.Refused why))
+        handles_empty (Some p) why er ed = absurd (let z : ◌≡◌ {A = ℕ} 0 1 = cc in omega arith)
+        handles_empty None why er ed = elim (cases_Bool sg.marks.ack) [
+          | inl a ↦ absurd (let g = sym ed ∙ cond-true sg.marks.ack _ (Err refusal.Empty) a in let z : ◌≡◌ {A = ℕ} 0 1 = cc in omega arith)
+          | inr a ↦
+              let g = err_is (sym (cond-false sg.marks.ack (Ok (record { number = sg.number; acknowledged = sg.acknowledged; marks = sg.marks.raw / 2 * 2; start = sg.payload; end = sg.payload })) (Err refusal.Empty) a) ∙ ed) in
+              subst (λ (x : Refusal). Handles c k m (packet old) new v' (Err (dropped.Refused x))) g (
+                decided k ∙ ap (λ u. on_outcome c k m (packet old) (outcome_of c.words rest u)) er
+                    ∙ cond-false (packet old).ack (Update k (advanced c (packet old) m.stream m) Looms (packet_left m (packet old) 0 [] None)) (Refuse 9) (sym rd.1.ack ∙ a),
+                same-held m v' es e1 e2 e3 e4 (sym (ap (λ u. after c.width m.stream (segment_at m (packet old)) (outcome_of c.words rest u)) er)) refl refl refl refl,
               )
-          go taken.Closed et f =
-              let er : verdict.Drop refusal.Shut ≡ r = cc in
-              subst (Handles c k m (packet old) new v') er (
-                decided k ∙ ap (λ u. on_outcome c k m (packet old) (outcome_of c.words rest u)) et,
-                same-held m v' es e1 e2 e3 e4 (sym (ap (λ u. after c.width m.stream (segment_at m (packet old)) (outcome_of c.words rest u)) et)) refl refl refl refl,
-              )
-          go taken.Empty et f = elim (cases_Bool sg.marks.ack) [
-            | inl a ↦ absurd (let g = f ∙ cond-true sg.marks.ack _ (Err (verdict.Drop refusal.Empty)) a in let z : ◌≡◌ {A = ℕ} 0 1 = cc in omega arith)
-            | inr a ↦
-                let g = f ∙ cond-false sg.marks.ack (Ok (record { number = sg.number; acknowledged = sg.acknowledged; marks = sg.marks.raw / 2 * 2; start = sg.payload; end = sg.payload })) (Err (verdict.Drop refusal.Empty)) a in
-                let er : verdict.Drop refusal.Empty ≡ r = cc in
-                subst (Handles c k m (packet old) new v') er (
-                  decided k ∙ ap (λ u. on_outcome c k m (packet old) (outcome_of c.words rest u)) et
-                      ∙ cond-false (packet old).ack (Update k (advanced c (packet old) m.stream m) Looms (packet_left m (packet old) 0 [] None)) (Refuse 9) (sym rd.1.ack ∙ a),
-                  same-held m v' es e1 e2 e3 e4 (sym (ap (λ u. after c.width m.stream (segment_at m (packet old)) (outcome_of c.words rest u)) et)) refl refl refl refl,
-                )
-          ]
+        ]
 
       abbrev taken_by : Option ℕ → Stream
       taken_by fin = streams.taken c.width (piece_of (segment_at m (packet old))) fin m.stream
 
-      number_is : (place from to : ℕ) (bytes : Bytes) (fin : Option ℕ) → from ≤ to → length bytes ≡ to - from →
-          cond (ltb from to) (number_of v.first place) (number_of_fin v.first sg.number fin) ≡ number_left m (packet old) place bytes fin
-      number_is place from to (b ∷ bs) fin o n =
-          cond-true (ltb from to) (number_of v.first place) (number_of_fin v.first sg.number fin) (lt-ltb from to (omega arith)) ∙ ap (λ x. number_of x place) h.first
-      number_is place from to [] (Some f) o n =
-          cond-false (ltb from to) (number_of v.first place) (number_of v.first f) (le-ltb from to (omega arith)) ∙ ap (λ x. number_of x f) h.first
-      number_is place from to [] None o n = cond-false (ltb from to) (number_of v.first place) sg.number (le-ltb from to (omega arith)) ∙ rd.1.number
+      number_is : (p : Part) (bytes : Bytes) → p.start ≤ p.end → length bytes ≡ p.end - p.start →
+          number_at v.first sg.number (option_or (first_byte p) p.fin) ≡ number_left m (packet old) p.place bytes p.fin
+      number_is p bytes o n = go p.fin bytes n
+        where
+          go : (fin : Option ℕ) (bs : Bytes) → length bs ≡ p.end - p.start → number_at v.first sg.number (option_or (first_byte p) fin) ≡ number_left m (packet old) p.place bs fin
+          go fin (b ∷ bs) n =
+              ap (λ x. number_at v.first sg.number (option_or x fin)) (cond-true (ltb p.start p.end) (Some p.place) None (lt-ltb p.start p.end (omega arith)))
+              ∙ ap (λ x. number_of x p.place) h.first
+          go (Some f) [] n =
+              ap (λ x. number_at v.first sg.number (option_or x (Some f))) (cond-false (ltb p.start p.end) (Some p.place) None (le-ltb p.start p.end (omega arith)))
+              ∙ ap (λ x. number_of x f) h.first
+          go None [] n =
+              ap (λ x. number_at v.first sg.number (option_or x None)) (cond-false (ltb p.start p.end) (Some p.place) None (le-ltb p.start p.end (omega arith))) ∙ rd.1.number
 
       marks_is : (fin : Option ℕ) → cond (is_some fin) sg.marks.raw (sg.marks.raw / 2 * 2) ≡ marks_left (packet old) fin
       marks_is (Some f) = rd.1.marks
@@ -393,54 +384,44 @@ module _ (c : Config) (m : Connection) (v : Value) (h : Held c m v) where
           (out : between a e exit ≡ rewrite (packet old) edit.number edit.acknowledged edit.marks (between edit.start edit.end new))
           (parts : (i j : ℕ) → between (sg.payload + i) (sg.payload + j) new ≡ between i j rest)
           (es : v'.stream ≡ s') (e1 : v'.first ≡ v.first) (e2 : v'.opening ≡ v.opening) (e3 : v'.last_ack ≡ cond sg.marks.ack sg.acknowledged v.last_ack) (e4 : v'.left ≡ c.quiet) where
-        advance_held : (s : Stream) → s ≡ after c.width m.stream (segment_at m (packet old)) (outcome_of c.words rest t) → Held c (advanced c (packet old) s m) v'
+        advance_held : (s : Stream) → s ≡ after c.width m.stream (segment_at m (packet old)) (outcome_of c.words rest r) → Held c (advanced c (packet old) s m) v'
         advance_held s em =
             held (advanced c (packet old) s m) v' es em (e1 ∙ h.first) (e2 ∙ h.opening)
             (e3 ∙ ap (λ b. cond b sg.acknowledged v.last_ack) rd.1.ack ∙ ap (λ n. cond (packet old).ack n v.last_ack) rd.1.acknowledged
             ∙ ap (cond (packet old).ack (packet old).acknowledged) h.last_ack) e4
 
-        pub handles_pass : stream.Left payload rest t → Edits v.first sg (length old) t (Ok edit) → Handles c k m (packet old) exit v' (verdict.Pass a e)
-        handles_pass left ed = go t refl left ed
-          where
-            go : (u : Taken) → t ≡ u → stream.Left payload rest u → Edits v.first sg (length old) u (Ok edit) → Handles c k m (packet old) exit v' (verdict.Pass a e)
-            go (taken.Word place w) et l f = absurd (let z : ◌≡◌ {A = ℕ} 0 1 = cc in omega arith)
-            go taken.Closed et l f = absurd (let z : ◌≡◌ {A = ℕ} 0 1 = cc in omega arith)
-            go (taken.Passed from to place fin) et l f =
-                let bytes = between from to rest in
-                let ee : edit ≡ record {
-                  number = cond (ltb from to) (number_of v.first place) (number_of_fin v.first sg.number fin);
-                  acknowledged = sg.acknowledged;
-                  marks = cond (is_some fin) sg.marks.raw (sg.marks.raw / 2 * 2);
-                  start = sg.payload + from;
-                  end = sg.payload + to;
-                } = cc in
-                let n : length bytes ≡ to - from = length-between rest from to (omega (arith, l.1)) in (
-                  advanced c (packet old) (taken_by fin) m,
-                  decided k ∙ ap (λ u. on_outcome c k m (packet old) (outcome_of c.words rest u)) et
-                      ∙ ap (Update k (advanced c (packet old) (taken_by fin) m) Looms)
-                      (sym (out ∙ ap (λ d. rewrite (packet old) d.number d.acknowledged d.marks (between d.start d.end new)) ee
-                      ∙ ap (λ x. rewrite (packet old) (cond (ltb from to) (number_of v.first place) (number_of_fin v.first sg.number fin)) sg.acknowledged (cond (is_some fin) sg.marks.raw (sg.marks.raw / 2 * 2)) x) (parts from to)
-                      ∙ ap (λ x. rewrite (packet old) x sg.acknowledged (cond (is_some fin) sg.marks.raw (sg.marks.raw / 2 * 2)) bytes) (number_is place from to bytes fin l.0 n)
-                      ∙ ap (λ x. rewrite (packet old) (number_left m (packet old) place bytes fin) x (cond (is_some fin) sg.marks.raw (sg.marks.raw / 2 * 2)) bytes) rd.1.acknowledged
-                      ∙ ap (λ x. rewrite (packet old) (number_left m (packet old) place bytes fin) (packet old).acknowledged x bytes) (marks_is fin))),
-                  advance_held (taken_by fin) (sym (ap (λ u. after c.width m.stream (segment_at m (packet old)) (outcome_of c.words rest u)) et)),
-                )
-            go taken.Empty et l f = elim (cases_Bool sg.marks.ack) [
-              | inr b ↦ absurd (let g = f ∙ cond-false sg.marks.ack _ (Err (verdict.Drop refusal.Empty)) b in let z : ◌≡◌ {A = ℕ} 0 1 = cc in omega arith)
-              | inl b ↦
-                  let bare : Edit = record { number = sg.number; acknowledged = sg.acknowledged; marks = sg.marks.raw / 2 * 2; start = sg.payload; end = sg.payload } in
-                  let g = f ∙ cond-true sg.marks.ack (Ok bare) (Err (verdict.Drop refusal.Empty)) b in
-                  let ee : edit ≡ bare = cc in
-                  let z : sg.payload - sg.payload ≡ 0 = omega arith in (
-                    advanced c (packet old) m.stream m,
-                    decided k ∙ ap (λ u. on_outcome c k m (packet old) (outcome_of c.words rest u)) et
-                        ∙ cond-true (packet old).ack (Update k (advanced c (packet old) m.stream m) Looms (packet_left m (packet old) 0 [] None)) (Refuse 9) (sym rd.1.ack ∙ b)
-                        ∙ ap (Update k (advanced c (packet old) m.stream m) Looms)
-                        (sym (out ∙ ap (λ d. rewrite (packet old) d.number d.acknowledged d.marks (between d.start d.end new)) ee
-                        ∙ ap (λ j. rewrite (packet old) sg.number sg.acknowledged (sg.marks.raw / 2 * 2) (take j (drop sg.payload new))) z
-                        ∙ ap (λ x. rewrite (packet old) x sg.acknowledged (sg.marks.raw / 2 * 2) []) rd.1.number
-                        ∙ ap (λ x. rewrite (packet old) (packet old).number x (sg.marks.raw / 2 * 2) []) rd.1.acknowledged
-                        ∙ ap (λ x. rewrite (packet old) (packet old).number (packet old).acknowledged (x / 2 * 2) []) rd.1.marks)),
-                    advance_held m.stream (sym (ap (λ u. after c.width m.stream (segment_at m (packet old)) (outcome_of c.words rest u)) et)),
-                  )
-            ]
+        pub handles_pass : (t : Option Part) → r ≡ Ok t → stream.Left payload rest (Ok t) → edit_left v.first sg t ≡ Ok edit → Handles c k m (packet old) exit v' (Ok (record { start = a; end = e }))
+        handles_pass (Some p) er l f =
+            let bytes = between p.start p.end rest in
+            let number = number_at v.first sg.number (option_or (first_byte p) p.fin) in
+            let marks = cond (is_some p.fin) sg.marks.raw (sg.marks.raw / 2 * 2) in
+            let ee : edit ≡ record { number = number; acknowledged = sg.acknowledged; marks = marks; start = sg.payload + p.start; end = sg.payload + p.end } = sym (ok_is f) in
+            let n : length bytes ≡ p.end - p.start = length-between rest p.start p.end (omega (arith, l.1)) in (
+              advanced c (packet old) (taken_by p.fin) m,
+              decided k ∙ ap (λ u. on_outcome c k m (packet old) (outcome_of c.words rest u)) er
+                  ∙ ap (Update k (advanced c (packet old) (taken_by p.fin) m) Looms)
+                  (sym (out ∙ ap (λ d. rewrite (packet old) d.number d.acknowledged d.marks (between d.start d.end new)) ee
+                  ∙ ap (λ x. rewrite (packet old) number sg.acknowledged marks x) (parts p.start p.end)
+                  ∙ ap (λ x. rewrite (packet old) x sg.acknowledged marks bytes) (number_is p bytes l.0 n)
+                  ∙ ap (λ x. rewrite (packet old) (number_left m (packet old) p.place bytes p.fin) x marks bytes) rd.1.acknowledged
+                  ∙ ap (λ x. rewrite (packet old) (number_left m (packet old) p.place bytes p.fin) (packet old).acknowledged x bytes) (marks_is p.fin))),
+              advance_held (taken_by p.fin) (sym (ap (λ u. after c.width m.stream (segment_at m (packet old)) (outcome_of c.words rest u)) er)),
+            )
+        handles_pass None er l f = elim (cases_Bool sg.marks.ack) [
+          | inr b ↦ absurd (let g = sym f ∙ cond-false sg.marks.ack _ (Err refusal.Empty) b in let z : ◌≡◌ {A = ℕ} 0 1 = cc in omega arith)
+          | inl b ↦
+              let bare : Edit = record { number = sg.number; acknowledged = sg.acknowledged; marks = sg.marks.raw / 2 * 2; start = sg.payload; end = sg.payload } in
+              let ee : edit ≡ bare = ok_is (sym f ∙ cond-true sg.marks.ack (Ok bare) (Err refusal.Empty) b) in
+              let z : sg.payload - sg.payload ≡ 0 = omega arith in (
+                advanced c (packet old) m.stream m,
+                decided k ∙ ap (λ u. on_outcome c k m (packet old) (outcome_of c.words rest u)) er
+                    ∙ cond-true (packet old).ack (Update k (advanced c (packet old) m.stream m) Looms (packet_left m (packet old) 0 [] None)) (Refuse 9) (sym rd.1.ack ∙ b)
+                    ∙ ap (Update k (advanced c (packet old) m.stream m) Looms)
+                    (sym (out ∙ ap (λ d. rewrite (packet old) d.number d.acknowledged d.marks (between d.start d.end new)) ee
+                    ∙ ap (λ j. rewrite (packet old) sg.number sg.acknowledged (sg.marks.raw / 2 * 2) (take j (drop sg.payload new))) z
+                    ∙ ap (λ x. rewrite (packet old) x sg.acknowledged (sg.marks.raw / 2 * 2) []) rd.1.number
+                    ∙ ap (λ x. rewrite (packet old) (packet old).number x (sg.marks.raw / 2 * 2) []) rd.1.acknowledged
+                    ∙ ap (λ x. rewrite (packet old) (packet old).number (packet old).acknowledged (x / 2 * 2) []) rd.1.marks)),
+                advance_held m.stream (sym (ap (λ u. after c.width m.stream (segment_at m (packet old)) (outcome_of c.words rest u)) er)),
+              )
+        ]

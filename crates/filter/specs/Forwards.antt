@@ -1,38 +1,36 @@
 -- How a sender's segment goes on. Assumes nothing.
-use Rattle.std.specs.Prelude.{◌≡◌, ℕ, ◌+◌, ◌*◌, ◌/◌, ◌≤◌, cond, is_some, Some, None, Ok, Err, Option, Result, nat_lt}
+use Rattle.std.specs.Prelude.{ℕ, ◌+◌, ◌*◌, ◌/◌, ◌≤◌, cond, is_some, Some, None, Ok, Err, Option, Result, nat_lt}
+use Rattle.std.specs.Option.{option_or}
 use Rattle.packet.specs.declared.edit.Edit.{Edit}
 use Rattle.packet.specs.declared.segment.Segment.{Segment}
 use Rattle.sequence.specs.Places.{number_of}
-use Rattle.stream.specs.declared.taken.Taken.{Taken}
-use Rattle.stream.specs.declared.taken.Taken.TheVariants as taken
-use Rattle.filter.specs.declared.verdict.Refusal.TheVariants as refusal
-use Rattle.filter.specs.declared.verdict.Verdict.{Verdict}
-use Rattle.filter.specs.declared.verdict.Verdict.TheVariants as verdict
+use Rattle.stream.specs.declared.taken.Passed.{Passed}
+use Rattle.filter.specs.declared.verdict.Refusal.{Refusal}
+use Rattle.filter.specs.declared.verdict.Refusal.TheVariants.{Empty}
 
-abbrev pub number_of_fin : ℕ → ℕ → Option ℕ → ℕ
-number_of_fin first came (Some f) = number_of first f
-number_of_fin first came None = came
+-- the number of a place, or the one that came
+abbrev pub number_at : ℕ → ℕ → Option ℕ → ℕ
+number_at first came (Some i) = number_of first i
+number_at first came None = came
 
 -- a part of the payload, which begins at `start` in a packet of `len` bytes
-abbrev pub Inside : ℕ → ℕ → Taken → Type 0
-Inside start len (taken.Passed from to place fin) = (from ≤ to) × (start + to ≤ len)
-Inside start len taken.Empty = start ≤ len
-Inside start len (taken.Word place word) = Unit {0}
-Inside start len taken.Closed = Unit {0}
+abbrev pub Inside : ℕ → ℕ → Option Passed → Type 0
+Inside start len (Some p) = (p.start ≤ p.end) × (start + p.end ≤ len)
+Inside start len None = start ≤ len
 
--- what is done with a segment, by what its stream answered
-abbrev pub Edits : ℕ → Segment → ℕ → Taken → Result Edit Verdict → Type 0
-Edits first s len (taken.Passed from to place fin) r =
-    r ≡ Ok (record {
-      number = cond (nat_lt from to) (number_of first place) (number_of_fin first s.number fin);
-      acknowledged = s.acknowledged;
-      marks = cond (is_some fin) s.marks.raw (s.marks.raw / 2 * 2);
-      start = s.payload + from;
-      end = s.payload + to;
-    })
-Edits first s len taken.Empty r =
-    r ≡ cond s.marks.ack
+-- the place of the first byte that is passed, if one is
+abbrev pub first_byte : Passed → Option ℕ
+first_byte p = cond (nat_lt p.start p.end) (Some p.place) None
+
+-- what a segment's packet is to hold, by what is passed of the segment
+abbrev pub edit_left : ℕ → Segment → Option Passed → Result Edit Refusal
+edit_left first s (Some p) = Ok (record {
+  number = number_at first s.number (option_or (first_byte p) p.fin);
+  acknowledged = s.acknowledged;
+  marks = cond (is_some p.fin) s.marks.raw (s.marks.raw / 2 * 2);
+  start = s.payload + p.start;
+  end = s.payload + p.end;
+})
+edit_left first s None = cond s.marks.ack
     (Ok (record { number = s.number; acknowledged = s.acknowledged; marks = s.marks.raw / 2 * 2; start = s.payload; end = s.payload }))
-    (Err (verdict.Drop refusal.Empty))
-Edits first s len (taken.Word place word) r = r ≡ Err (verdict.Word place word)
-Edits first s len taken.Closed r = r ≡ Err (verdict.Drop refusal.Shut)
+    (Err Empty)

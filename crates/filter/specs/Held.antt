@@ -1,5 +1,6 @@
 -- What the gate's values stand for. Assumes nothing.
-use Rattle.std.specs.Prelude.{◌≡◌, ℕ, ◌≤◌, Bool, false, List, [], length, take, drop, nat_lt, slice_index_or}
+use Rattle.std.specs.Prelude.{◌≡◌, ℕ, ◌≤◌, Bool, false, List, [], length, take, drop, Ok, Err, Result, nat_lt, slice_index_or}
+use Rattle.std.specs.declared.ops.Range.{Range}
 use Rattle.std.specs.List.{between}
 use Rattle.packet.specs.Bytes.{Bytes}
 use Rattle.packet.specs.Packet.{Packet}
@@ -15,8 +16,8 @@ use Rattle.filter.specs.Verdict.{Refuse, Shut, Update}
 use Rattle.filter.specs.declared.connection.Connection.{Connection as Value}
 use Rattle.filter.specs.declared.verdict.Refusal.{Refusal}
 use Rattle.filter.specs.declared.verdict.Refusal.TheVariants as refusal
-use Rattle.filter.specs.declared.verdict.Verdict.{Verdict}
-use Rattle.filter.specs.declared.verdict.Verdict.TheVariants as verdict
+use Rattle.filter.specs.declared.verdict.Dropped.{Dropped}
+use Rattle.filter.specs.declared.verdict.Dropped.TheVariants as dropped
 
 -- the number of each refusal
 abbrev pub refusal_number : Refusal → ℕ
@@ -40,18 +41,21 @@ pub record Held (c : Config) (m : Connection) (v : Value) : Type 0 where
   pub history : m.stream ≡ run c.width c.words blank before
   pub stands : Stands c.words before v.stream
 
+-- the part of the lent buffer that goes out, or why none does
+abbrev pub Answer : Type 0
+Answer = Result (Range ℕ) Dropped
+
 -- a segment of the sender's is handled as decided, where these bytes are left in the lent buffer
-abbrev pub Handles : Config → Key → Connection → Packet → Bytes → Value → Verdict → Type 0
-Handles c k m p bytes v (verdict.Pass start end) = (m' : Connection) × (on_segment c k m p ≡ Update k m' Looms (between start end bytes)) × Held c m' v
-Handles c k m p bytes v (verdict.Drop why) = (on_segment c k m p ≡ Refuse (refusal_number why)) × Held c m v
-Handles c k m p bytes v (verdict.Word place w) =
-    (on_segment c k m p ≡ Shut k (closed m) (reset_to_loom k m) (reset_to_sender k m) (record { place = place; word = slice_index_or c.words w [] })) × Held c (closed m) v
+abbrev pub Handles : Config → Key → Connection → Packet → Bytes → Value → Answer → Type 0
+Handles c k m p bytes v (Ok out) = (m' : Connection) × (on_segment c k m p ≡ Update k m' Looms (between out.start out.end bytes)) × Held c m' v
+Handles c k m p bytes v (Err (dropped.Refused why)) = (on_segment c k m p ≡ Refuse (refusal_number why)) × Held c m v
+Handles c k m p bytes v (Err (dropped.Word w)) =
+    (on_segment c k m p ≡ Shut k (closed m) (reset_to_loom k m) (reset_to_sender k m) (record { place = w.place; word = slice_index_or c.words w.word [] })) × Held c (closed m) v
 
 -- what is left in the lent buffer: outside the part that goes out it is as it came
-abbrev pub Left : Bytes → Bytes → Verdict → Type 0
-Left came bytes (verdict.Pass start end) = (start ≤ end) × (end ≤ length came) × (take start bytes ≡ take start came) × (drop end bytes ≡ drop end came)
-Left came bytes (verdict.Drop why) = bytes ≡ came
-Left came bytes (verdict.Word place w) = bytes ≡ came
+abbrev pub Left : Bytes → Bytes → Answer → Type 0
+Left came bytes (Ok out) = (out.start ≤ out.end) × (out.end ≤ length came) × (take out.start bytes ≡ take out.start came) × (drop out.end bytes ≡ drop out.end came)
+Left came bytes (Err why) = bytes ≡ came
 
 -- is a place above a limit
 abbrev pub above : Place → ℕ → Bool
@@ -59,5 +63,5 @@ above (At i) limit = nat_lt limit i
 above (Below n) limit = false
 
 -- a packet of the loom's that acknowledges is handled as decided
-abbrev pub Acknowledges : Config → Key → Connection → Packet → Bytes → Value → ℕ → ℕ → Type 0
-Acknowledges c k m p bytes v start end = (m' : Connection) × (acknowledges c k m p ≡ Update k m' Outside (between start end bytes)) × Held c m' v
+abbrev pub Acknowledges : Config → Key → Connection → Packet → Bytes → Value → Range ℕ → Type 0
+Acknowledges c k m p bytes v out = (m' : Connection) × (acknowledges c k m p ≡ Update k m' Outside (between out.start out.end bytes)) × Held c m' v

@@ -1,5 +1,6 @@
 pub mod Config
 pub mod Decide
+pub mod Dropped
 pub mod Example
 pub mod Gate
 pub mod Promise

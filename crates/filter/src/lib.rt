@@ -9,4 +9,4 @@ mod side;
 mod verdict;
 
 pub use side::Side;
-pub use verdict::{Refusal, Verdict};
+pub use verdict::{Dropped, Refusal};

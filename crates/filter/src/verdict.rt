@@ -1,6 +1,10 @@
-// What is done with a packet.
+// Why a packet does not go out.
+ghost use Rattle.std.specs.Prelude.{◌≡◌};
+ghost use Rattle.filter.specs.Dropped.{dropped_for};
+ghost use Rattle.filter.specs.declared.verdict.Dropped.TheVariants.{Refused};
 
-// Why a packet is not passed on.
+use stream::WordAt;
+
 #[derive(Clone, Copy, PartialEq, Eq, Debug)]
 pub enum Refusal {
     BadHeader,
@@ -18,11 +22,28 @@ pub enum Refusal {
 }
 
 #[derive(Clone, Copy, PartialEq, Eq, Debug)]
-pub enum Verdict {
-    // this part of the lent buffer goes out to the other side
-    Pass { start: usize, end: usize },
+pub enum Dropped {
     // not passed on, and nothing has changed
-    Drop(Refusal),
-    // a word would stand in the text, at this place and of this number: not passed on, and the stream is shut
-    Word { place: u64, word: u8 },
+    Refused(Refusal),
+    // this word would stand in the text: not passed on, and the stream is shut
+    Word(WordAt),
+}
+
+impl From<Refusal> for Dropped {
+    ghost from_gives = { λ why r. r ≡ Refused why };
+
+    fn from(why: Refusal) -> Dropped {
+        Dropped::Refused(why)
+    }
+}
+
+impl From<stream::Refused> for Dropped {
+    ghost from_gives = { λ why r. r ≡ dropped_for why };
+
+    fn from(why: stream::Refused) -> Dropped {
+        match why {
+            stream::Refused::Word(word) => Dropped::Word(word),
+            stream::Refused::Shut => Dropped::Refused(Refusal::Shut),
+        }
+    }
 }

@@ -1,7 +1,8 @@
-use Rattle.std.proofs.Common.{◌≡◌, ◌+◌, ◌-◌, ◌≤◌, length, sym, refl, ap, ◌∙◌, arith}
+use Rattle.std.proofs.Common.{◌≡◌, ◌+◌, ◌-◌, ◌≤◌, length, Ok, Err, sym, refl, ap, ◌∙◌, arith}
 use Rattle.std.proofs.lemmas.Bool.{both_ways, cond-false, cond-true}
+use Rattle.std.proofs.lemmas.Result.{err_from_is_err_and}
 use Rattle.sequence.specs.Places.{place_of}
-use Rattle.filter.proofs.ForwardLaws.{differs_model, edit_within, err_left, handles_err, handles_pass, low_fits, part_new, pass_left, patched, payload_length, whole_new, within_new}
+use Rattle.filter.proofs.ForwardLaws.{differs_model, edit_within, err_left, handles_empty, handles_pass, handles_untaken, low_fits, part_new, pass_left, patched, payload_length, untaken_left, whole_new, within_new}
 use Rattle.filter.proofs.connection.Connection.forward.Goals as goal
 use Rattle.filter.proofs.connection.Connection.forward.Goals.{then-differs, else-differs, then-segment, else-segment}
 
@@ -9,14 +10,14 @@ pub rewrite-start-requires : goal.rewrite-start-requires
 rewrite-start-requires c =
     let old = c.args.packet.now in
     let sg = c.args.segment.now in
-    let rest = c.take-taken.new.payload in
+    let rest = c.take.new.payload in
     let rd = c.requires in
     let l : sg.payload ≤ length old = omega (arith, rd.1.payload, rd.2.fits) in
-    let n : length rest ≡ length old - sg.payload = c.take-taken.auto.payload ∙ payload_length old sg.payload in
+    let n : length rest ≡ length old - sg.payload = c.take.auto.payload ∙ payload_length old sg.payload in
     let least : 40 ≤ sg.payload = omega (arith, rd.1.payload, rd.2.words) in
     record {
       whole = whole_new old rest sg.payload l n least rd.2;
-      kept = edit_within old rest sg.payload l n c.args.self.now.first sg refl c.take-taken.result c.take-taken.ensures.left least rd.1.payload c.in-Ok.edit c.in-Ok.ensures;
+      kept = edit_within old rest sg.payload l n c.args.self.now.first sg refl c.in_ok-passed.passed c.in_ok-passed.ensures.left least rd.1.payload c.in_ok-edit.edit (sym c.edit_left.ensures ∙ c.in_ok-edit.was);
       patched = elim c.if-differs.branch [
         | then-differs w ↦
             let es : c.if-differs.patch.start ≡ sg.payload + 0 = ap (λ p. p.start) w.patch-is ∙ w.before-patch.ensures.start ∙ omega arith in
@@ -29,42 +30,65 @@ rewrite-start-requires c =
       ];
     }
 
-pub returns-in-Err : goal.returns-in-Err
-returns-in-Err c =
+pub returns-in_err-passed : goal.returns-in_err-passed
+returns-in_err-passed c =
     let old = c.args.packet.now in
     let sg = c.args.segment.now in
-    let rest = c.take-taken.new.payload in
+    let rest = c.take.new.payload in
     let rd = c.requires in
     let v = c.args.self.now in
     let l : sg.payload ≤ length old = omega (arith, rd.1.payload, rd.2.fits) in
-    let n : length rest ≡ length old - sg.payload = c.take-taken.auto.payload ∙ payload_length old sg.payload in
-    record {
-      left = err_left old rest sg.payload l n v.first sg refl c.take-taken.result c.take-taken.ensures.left c.in-Err.verdict c.in-Err.ensures;
+    let n : length rest ≡ length old - sg.payload = c.take.auto.payload ∙ payload_length old sg.payload in
+    let p = err_from_is_err_and c.from_residual.result c.from_residual.ensures.1 in
+    rw (p.1, p.2) (record {
+      left = untaken_left old rest sg.payload l n c.in_err-passed.ensures.left;
       handles = λ cf k m eq ne tb h.
           let ea = c.place_of-at.ensures.within (rw c.marks.ensures (low_fits cf m v h ne)) ∙ ap (λ x. place_of v.first x.low sg.number) c.marks.ensures in
-          handles_err cf m v h old sg c.place_of-at.result ne rd ea c.take-taken.new.self rest c.take-taken.result c.take-taken.ensures.width
-          (c.take-taken.ensures.took cf.words h.before ne tb h.stands) k _ c.in-Err.verdict _ c.in-Err.ensures refl refl refl refl refl;
-    }
+          handles_untaken cf m v h old sg c.place_of-at.result ne rd ea c.take.new.self rest (Err c.in_err-passed.field-0.0) c.take.ensures.width
+          (c.in_err-passed.ensures.took cf.words h.before ne tb h.stands) k old _ refl refl refl refl refl c.in_err-passed.field-0.0 refl;
+    })
 
-pub returns-after-segment : goal.returns-after-segment
-returns-after-segment c =
+pub returns-in_err-edit : goal.returns-in_err-edit
+returns-in_err-edit c =
     let old = c.args.packet.now in
     let sg = c.args.segment.now in
-    let rest = c.take-taken.new.payload in
+    let rest = c.take.new.payload in
     let rd = c.requires in
     let v = c.args.self.now in
     let l : sg.payload ≤ length old = omega (arith, rd.1.payload, rd.2.fits) in
-    let n : length rest ≡ length old - sg.payload = c.take-taken.auto.payload ∙ payload_length old sg.payload in
+    let n : length rest ≡ length old - sg.payload = c.take.auto.payload ∙ payload_length old sg.payload in
+    let p = err_from_is_err_and c.from_residual-in_err-edit.result c.from_residual-in_err-edit.ensures.1 in
+    let ed = sym c.edit_left.ensures ∙ c.in_err-edit.was in
+    rw (p.1, p.2) (record {
+      left = err_left old rest sg.payload l n v.first sg refl c.in_ok-passed.passed c.in_ok-passed.ensures.left _ ed;
+      handles = λ cf k m eq ne tb h.
+          let ea = c.place_of-at.ensures.within (rw c.marks.ensures (low_fits cf m v h ne)) ∙ ap (λ x. place_of v.first x.low sg.number) c.marks.ensures in
+          handles_empty cf m v h old sg c.place_of-at.result ne rd ea c.take.new.self rest (Ok c.in_ok-passed.passed) c.take.ensures.width
+          (c.in_ok-passed.ensures.took cf.words h.before ne tb h.stands) k old _ refl refl refl refl refl c.in_ok-passed.passed _ refl ed;
+    })
+
+pub returns : goal.returns
+returns c =
+    let old = c.args.packet.now in
+    let sg = c.args.segment.now in
+    let rest = c.take.new.payload in
+    let rd = c.requires in
+    let v = c.args.self.now in
+    let l : sg.payload ≤ length old = omega (arith, rd.1.payload, rd.2.fits) in
+    let n : length rest ≡ length old - sg.payload = c.take.auto.payload ∙ payload_length old sg.payload in
     let least : 40 ≤ sg.payload = omega (arith, rd.1.payload, rd.2.words) in
+    let ed = sym c.edit_left.ensures ∙ c.in_ok-edit.was in
+    let taken = c.in_ok-passed.ensures in
+    let passed = c.in_ok-passed.passed in
     record {
-      left = pass_left old rest sg.payload l n v.first sg refl c.take-taken.result c.take-taken.ensures.left least rd.1.payload c.in-Ok.edit c.in-Ok.ensures
+      left = pass_left old rest sg.payload l n v.first sg refl passed taken.left least rd.1.payload c.in_ok-edit.edit ed
           c.rewrite-start.new.packet c.rewrite-start.result.0 c.rewrite-start.result.1 c.rewrite-start.ensures.rest;
       handles = λ cf k m eq ne tb h.
           let ea = c.place_of-at.ensures.within (rw c.marks.ensures (low_fits cf m v h ne)) ∙ ap (λ x. place_of v.first x.low sg.number) c.marks.ensures in
-          let took = c.take-taken.ensures.took cf.words h.before ne tb h.stands in
-          let over = patched cf m v h old sg c.place_of-at.result ne rd ea c.take-taken.new.self rest c.take-taken.result c.take-taken.ensures.width took
+          let took = taken.took cf.words h.before ne tb h.stands in
+          let over = patched cf m v h old sg c.place_of-at.result ne rd ea c.take.new.self rest (Ok passed) c.take.ensures.width took passed refl taken.left
           c.differs.result (differs_model cf m v h old sg c.place_of-at.result ne rd ea c.differs.result (c.differs.ensures cf.words h.before ne h.stands))
-          c.take-taken.ensures.left c.in-Ok.edit c.in-Ok.ensures c.if-differs.patch
+          c.if-differs.patch
           (λ b. elim c.if-differs.branch [
             | then-differs w ↦ rw w.patch-is w.before-patch.ensures
             | else-differs w ↦ absurd (both_ways _ w.if-differs.false b)
@@ -73,8 +97,8 @@ returns-after-segment c =
             | then-differs w ↦ absurd (both_ways _ b w.if-differs.true)
             | else-differs w ↦ rw w.patch-is w.none-patch.ensures.nothing
           ]) l n in
-          handles_pass cf m v h old sg c.place_of-at.result ne rd ea c.take-taken.new.self rest c.take-taken.result c.take-taken.ensures.width took
-          k _ c.rewrite-start.new.packet c.rewrite-start.result.0 c.rewrite-start.result.1 c.in-Ok.edit c.if-segment.self c.take-taken.auto.payload
+          handles_pass cf m v h old sg c.place_of-at.result ne rd ea c.take.new.self rest (Ok passed) c.take.ensures.width took
+          k _ c.rewrite-start.new.packet c.rewrite-start.result.0 c.rewrite-start.result.1 c.in_ok-edit.edit c.if-segment.self c.take.auto.payload
           (c.rewrite-start.ensures.out old rd.0 over) (part_new old rest sg.payload l n)
           (elim c.if-segment.branch [ then-segment w ↦ ap (λ x. x.stream) w.self-is | else-segment w ↦ ap (λ x. x.stream) w.self-is ])
           (elim c.if-segment.branch [ then-segment w ↦ ap (λ x. x.first) w.self-is | else-segment w ↦ ap (λ x. x.first) w.self-is ])
@@ -84,5 +108,5 @@ returns-after-segment c =
             | else-segment w ↦ ap (λ x. x.last_ack) w.self-is ∙ sym (cond-false sg.marks.ack sg.acknowledged v.last_ack w.if-segment.false)
           ])
           (elim c.if-segment.branch [ then-segment w ↦ ap (λ x. x.left) w.self-is ∙ sym eq | else-segment w ↦ ap (λ x. x.left) w.self-is ∙ sym eq ])
-          c.take-taken.ensures.left c.in-Ok.ensures;
+          passed refl taken.left ed;
     }
