@@ -1,5 +1,4 @@
 use Rattle.std.proofs.Common.{◌≡◌, max, sym, ap, ◌∙◌}
-use Rattle.sequence.specs.Model.{model_of}
 use Rattle.window.specs.Window.{width}
 use Rattle.stream.specs.Stream.{places, up_to}
 use Rattle.stream.proofs.PartLaws.{Starts, part_of, starts_at, starts_below}
@@ -13,10 +12,10 @@ returns c =
       | in-Some w ↦ w.limit-is ∙ w.min-limit.ensures ∙ ap (λ o. up_to o places) (sym w.in-Some.is)
       | in-None w ↦ w.limit-is ∙ ap (λ o. up_to o places) (sym w.in-None.is)
     ] in
-    let es : Starts (model_of c.args.at) c.args.len c.match-at.first.0 c.match-at.first.1 = elim c.match-at.branch [
+    let es : Starts c.args.at c.args.len c.match-at.first.0 c.match-at.first.1 = elim c.match-at.branch [
       | in-At w ↦ rw (w.first-is, w.in-At.is) (starts_at w.in-At.i c.args.len)
       | in-Below w ↦ rw (w.first-is, w.in-Below.is, w.min.ensures) (starts_below w.in-Below.n c.args.len)
     ] in
-    part_of code.window.low (width code.window) code.marks.fin (model_of c.args.at) c.args.len c.match-self.limit c.match-at.first.0 c.match-at.first.1
+    part_of code.window.low (width code.window) code.marks.fin c.args.at c.args.len c.match-self.limit c.match-at.first.0 c.match-at.first.1
     c.cut-start.result.0 c.cut-start.result.1 c.max.result el es c.cut-start.ensures.part c.cut-start.ensures.within
     (c.max.ensures ∙ ap (max c.match-at.first.0) c.low.ensures)
