@@ -6,7 +6,9 @@ use Rattle.std.proofs.lemmas.List.{take_all}
 use Rattle.std.proofs.lemmas.Bool.{cond-false, cond-true, le-leb, lt-leb, ltb-false, ltb-true}
 use Rattle.packet.specs.Bytes.{Bytes}
 use Rattle.packet.specs.Packet.{packet, rewrite}
-use Rattle.sequence.specs.Places.{At, Below, Place, number_of}
+use Rattle.sequence.specs.declared.Place.{Place}
+use Rattle.sequence.specs.declared.Place.TheVariants.{At, Below}
+use Rattle.sequence.specs.Places.{number_of}
 use Rattle.window.specs.Window.{width}
 use Rattle.stream.specs.Shown.{Stands}
 use Rattle.stream.specs.Steps.{Acked, run, step}

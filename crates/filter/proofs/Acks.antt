@@ -6,7 +6,9 @@ use Rattle.automaton.specs.Text.{Text}
 use Rattle.packet.specs.Bytes.{Bytes}
 use Rattle.packet.specs.Packet.{Packet, packet, read}
 use Rattle.packet.proofs.WriteLaws.{sent-right}
-use Rattle.sequence.specs.Places.{Place, Below, At, number_of, place_of}
+use Rattle.sequence.specs.declared.Place.{Place}
+use Rattle.sequence.specs.declared.Place.TheVariants.{Below, At}
+use Rattle.sequence.specs.Places.{number_of, place_of}
 use Rattle.sequence.proofs.PlaceLaws.{place_back}
 use Rattle.window.proofs.PieceLaws.{none-some}
 use Rattle.stream.specs.Stream.{Stream, none_elsewhere, ack_limit, acknowledged_to}

@@ -9,7 +9,8 @@ use Rattle.packet.specs.Laws.{Sent, as_came, rewritten}
 use Rattle.packet.proofs.HeaderLaws.{rewrite_keeps}
 use Rattle.packet.proofs.ReadLaws.{read_is, read_refuses}
 use Rattle.packet.proofs.WriteLaws.{sent-right}
-use Rattle.sequence.specs.Places.{Place, Below, At}
+use Rattle.sequence.specs.declared.Place.{Place}
+use Rattle.sequence.specs.declared.Place.TheVariants.{Below, At}
 use Rattle.window.proofs.PieceLaws.{none-some}
 use Rattle.stream.specs.Stream.{Stream, taken, ack_limit, acknowledged_to}
 use Rattle.stream.specs.Steps.{Arrives, Segment, piece_of, piece_left, fin_left, Outcome, Passed, Empty, Word, is_empty, outcome}

@@ -18,7 +18,6 @@ use Rattle.packet.specs.declared.segment.Segment.{Segment as Seg}
 use Rattle.packet.proofs.BytesLaws.{byte-front}
 use Rattle.packet.proofs.PatchLaws.{overwritten}
 use Rattle.automaton.specs.Text.{nonempty}
-use Rattle.sequence.specs.Model.{model_of}
 use Rattle.sequence.specs.Places.{number_of, place_of}
 use Rattle.sequence.specs.declared.Place.{Place as Where}
 use Rattle.window.specs.Known.{Piece}
@@ -203,10 +202,10 @@ module _ (c : Config) (m : Connection) (v : Value) (h : Held c m v) where
   low_fits ne = omega (arith, shown.low, (sound ne).low_text, text_fits c.width c.words m.stream (sound ne))
 
   module _ (old : Bytes) (sg : Seg) (at : Where) (ne : nonempty c.words ≡ true) (rd : Reads old (Ok sg))
-      (ea : model_of at ≡ place_of v.first v.stream.marks.low sg.number) where
+      (ea : at ≡ place_of v.first v.stream.marks.low sg.number) where
     -- the segment as it came to the stream
     abbrev came : Segment
-    came = record { at = model_of at; bytes = between sg.payload (length old) old; fin = sg.marks.fin }
+    came = record { at = at; bytes = between sg.payload (length old) old; fin = sg.marks.fin }
 
     came_is : came ≡ segment_at m (packet old)
     came_is =

@@ -8,7 +8,9 @@ use Rattle.packet.specs.Bytes.{Bytes}
 use Rattle.packet.specs.Packet.{packet, read}
 use Rattle.packet.specs.Laws.{ReadsAs, Sent, rewritten}
 use Rattle.packet.proofs.WriteLaws.{sent-right}
-use Rattle.sequence.specs.Places.{Place, Below, At, number_of, place_of, place_after}
+use Rattle.sequence.specs.declared.Place.{Place}
+use Rattle.sequence.specs.declared.Place.TheVariants.{Below, At}
+use Rattle.sequence.specs.Places.{number_of, place_of, place_after}
 use Rattle.sequence.proofs.PlaceLaws.{place_back}
 use Rattle.window.specs.Known.{Piece}
 use Rattle.window.proofs.KnownLaws.{length-overlay}

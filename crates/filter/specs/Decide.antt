@@ -3,7 +3,9 @@ use Rattle.std.specs.Prelude.{ℕ, ◌*◌, ◌/◌, Bool, cond, not, ◌&&◌, 
 use Rattle.automaton.specs.Text.{Text}
 use Rattle.packet.specs.Bytes.{Bytes}
 use Rattle.packet.specs.Packet.{Packet, read, rewrite, reset}
-use Rattle.sequence.specs.Places.{Place, Below, At, number_of, place_of}
+use Rattle.sequence.specs.declared.Place.{Place}
+use Rattle.sequence.specs.declared.Place.TheVariants.{Below, At}
+use Rattle.sequence.specs.Places.{number_of, place_of}
 use Rattle.stream.specs.Stream.{Stream, ack_limit, acknowledged_to, taken}
 use Rattle.stream.specs.Steps.{Segment, piece_of, Outcome, Passed, Empty, Word, Closed, is_empty, outcome}
 use Rattle.filter.specs.Config.{Config, Side, Outside, Looms, Key, key_from}

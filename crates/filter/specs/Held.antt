@@ -4,7 +4,8 @@ use Rattle.std.specs.declared.ops.Range.{Range}
 use Rattle.std.specs.List.{between}
 use Rattle.packet.specs.Bytes.{Bytes}
 use Rattle.packet.specs.Packet.{Packet}
-use Rattle.sequence.specs.Places.{At, Below, Place}
+use Rattle.sequence.specs.declared.Place.{Place}
+use Rattle.sequence.specs.declared.Place.TheVariants.{At, Below}
 use Rattle.window.specs.Window.{width}
 use Rattle.stream.specs.Shown.{Stands}
 use Rattle.stream.specs.Steps.{Arrival, run}

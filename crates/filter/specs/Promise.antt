@@ -7,7 +7,8 @@ use Rattle.packet.specs.Bytes.{Bytes}
 use Rattle.packet.specs.Packet.{Packet, packet, read}
 use Rattle.packet.specs.Header.{HeaderKept}
 use Rattle.packet.specs.Laws.{Fresh, IsReset}
-use Rattle.sequence.specs.Places.{Below, At, number_of}
+use Rattle.sequence.specs.declared.Place.TheVariants.{Below, At}
+use Rattle.sequence.specs.Places.{number_of}
 use Rattle.window.specs.Known.{Piece}
 use Rattle.stream.specs.Stream.{Stream, blank, ack_limit}
 use Rattle.stream.specs.Steps.{Arrival, Arrives, Acked, piece_of, fin_at, Word, outcome, piece_in, fin_in}

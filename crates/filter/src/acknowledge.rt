@@ -3,7 +3,6 @@ ghost use Rattle.std.specs.Prelude.{◌≡◌, true, false, Ok};
 ghost use Rattle.automaton.specs.Text.{nonempty};
 ghost use Rattle.packet.specs.Packet.{packet as view};
 ghost use Rattle.packet.specs.Reads.{Reads};
-ghost use Rattle.sequence.specs.Model.{model_of};
 ghost use Rattle.filter.specs.Config.{Config, Key};
 ghost use Rattle.filter.specs.Gate.{Connection as Model};
 ghost use Rattle.filter.specs.Held.{Acknowledges, Held, Left, above};
@@ -17,7 +16,7 @@ use std::ops::Range;
 
 // Is the place above a limit?
 fn is_above(place: Place, limit: u64) -> bool
-    ensures { result ≡ above (model_of place) limit }
+    ensures { result ≡ above place limit }
 {
     match place {
         Place::At(i) => i > limit,

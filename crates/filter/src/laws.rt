@@ -3,15 +3,13 @@ ghost use Rattle.filter.specs.Example.{Example};
 ghost use Rattle.filter.specs.Promise.{Promise};
 
 // For every run of events, each beginning of a stream in it, and each packet.
-pub fn promise_kept() -> u8
+#[tactic(auto, using(crate::proofs::Kept::promise_kept))]
+pub fn promise_kept()
     ensures { Promise }
-{
-    0
-}
+{}
 
 // A run of packets that meets what the promise asks for: a beginning, bytes that pass, a word that shuts the stream, a beginning anew.
-pub fn example_run() -> u8
+#[tactic(auto, using(crate::proofs::Example::example))]
+pub fn example_run()
     ensures { Example }
-{
-    0
-}
+{}

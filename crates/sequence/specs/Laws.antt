@@ -1,6 +1,8 @@
 -- Laws of numbers and places, in the subject's own words. Each is a type; a proof of the type is the theorem. Assumes nothing.
 use Rattle.std.specs.Prelude.{◌≡◌, ℕ, ◌+◌, ◌-◌, ◌%◌, ◌<◌, ◌≤◌, ◌⊎◌}
-use Rattle.sequence.specs.Places.{Place, Below, At, number_of, place_of}
+use Rattle.sequence.specs.declared.Place.{Place}
+use Rattle.sequence.specs.declared.Place.TheVariants.{Below, At}
+use Rattle.sequence.specs.Places.{number_of, place_of}
 
 -- a number stands for a place that is congruent to it; only a place below 0 is written as Below
 abbrev pub Stands : ℕ → ℕ → Place → Type 0

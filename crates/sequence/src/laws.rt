@@ -2,8 +2,7 @@
 ghost use Rattle.sequence.specs.Laws.{PlaceLaw};
 
 // A number stands for the place congruent to it that lies nearest low, and for no other.
-pub fn place_law() -> u8
+#[tactic(auto, using(crate::proofs::PlaceLaws::place_law))]
+pub fn place_law()
     ensures { PlaceLaw }
-{
-    0
-}
+{}

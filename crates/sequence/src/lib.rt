@@ -2,8 +2,7 @@
 #![tactic(auto)]
 
 ghost use Rattle.std.specs.Prelude.{◌≡◌, ◌≤◌, min};
-ghost use Rattle.sequence.specs.Model.{fitting, model_of};
-ghost use Rattle.sequence.specs.Places.{before, number_of, place_after, place_of};
+ghost use Rattle.sequence.specs.Places.{before, fitting, number_of, place_after, place_of};
 
 use std::cmp::Ordering;
 
@@ -13,7 +12,7 @@ pub mod laws;
 const HALF: u32 = 0x8000_0000;
 
 // Where places end: at 100 Gbit/s a stream gets there after 23 years.
-const PLACES: u64 = 0x8000_0000_0000_0000;
+pub const PLACES: u64 = 0x8000_0000_0000_0000;
 
 // A place of a stream: its first byte stands at 0. A number may also stand for a place so many below 0.
 #[derive(Clone, Copy, PartialEq, Eq, Debug)]
@@ -25,7 +24,7 @@ pub enum Place {
 impl Place {
     // The place after `n` bytes from this one on: none where that lies below 0 or does not fit.
     pub fn after(self, n: usize) -> Option<u64>
-        ensures { result ≡ fitting (place_after (model_of self) n) }
+        ensures { result ≡ fitting (place_after self n) }
     {
         let n = n as u64;
         match self {
@@ -44,7 +43,7 @@ pub fn number_of(first: u32, place: u64) -> u32
 
 // So many places before a place.
 fn before(n: u32, place: u64) -> Place
-    ensures { model_of result ≡ before n place }
+    ensures { result ≡ before n place }
 {
     let n = u64::from(n);
     if n <= place {
@@ -56,9 +55,10 @@ fn before(n: u32, place: u64) -> Place
 
 // The place congruent to a number that lies nearest `low`, of two equally near the higher.
 // A `low` past the end of places counts as that end, so that every place fits.
+#[tactic(auto, unfolding(crate::specs::Places::place_of))]
 pub fn place_of(first: u32, low: u64, number: u32) -> Place
-    ensures place { model_of result ≡ place_of first (min low 9223372036854775808) number }
-    ensures within { low ≤ 9223372036854775808 → model_of result ≡ place_of first low number }
+    ensures place { result ≡ place_of first (min low 9223372036854775808) number }
+    ensures within { low ≤ 9223372036854775808 → result ≡ place_of first low number }
 {
     let low = low.min(PLACES);
     let ahead = number.wrapping_sub(number_of(first, low));

@@ -4,6 +4,7 @@
 use anyhow::anyhow;
 use automaton::{Table, WordList};
 use sequence::Place;
+use std::fmt::Display;
 use std::io;
 use stream::{Stream, Taken};
 
@@ -22,40 +23,42 @@ const BACKWARD: [(u64, u8); 2] = [(1, b'b'), (0, b'a')];
 // Two machines that differ in what they keep of a place that comes twice.
 #[derive(Drop)]
 struct Machines {
-    keeps_first: [u8; 2],
-    takes_last: [u8; 2],
+    keeps_first: [Option<u8>; 2],
+    takes_last: [Option<u8>; 2],
 }
 
 impl Machines {
     fn new() -> Machines {
         Machines {
-            keeps_first: [b'-'; 2],
-            takes_last: [b'-'; 2],
+            keeps_first: [None; 2],
+            takes_last: [None; 2],
         }
     }
 
     fn receive(&mut self, place: u64, byte: u8) {
         if place < 2 {
             let at = place as usize;
-            if self.keeps_first[at] == b'-' {
-                self.keeps_first[at] = byte;
-            }
-            self.takes_last[at] = byte;
+            self.keeps_first[at].get_or_insert(byte);
+            self.takes_last[at] = Some(byte);
         }
     }
 
     fn show(&self, rt: &HostRuntime) -> io::Result<()> {
-        let [a, b] = self.keeps_first;
-        println!(rt;
-            "  a machine that keeps the first byte reads: {}{}",
-            a as char, b as char
-        )?;
-        let [a, b] = self.takes_last;
-        println!(rt;
-            "  a machine that takes the last byte reads:  {}{}",
-            a as char, b as char
-        )
+        let [a, b] = self.keeps_first.map(shown);
+        println!(rt; "  a machine that keeps the first byte reads: {a}{b}")?;
+        let [a, b] = self.takes_last.map(shown);
+        println!(rt; "  a machine that takes the last byte reads:  {a}{b}")
     }
+}
+
+// What stands at a place, and `-` where it stays empty.
+fn shown(byte: Option<u8>) -> char {
+    byte.map_or('-', char::from)
+}
+
+// Tells what becomes of a byte that is sent.
+fn tell_of(rt: &HostRuntime, place: u64, byte: u8, what: impl Display + Drop) -> io::Result<()> {
+    println!(rt; "  sent at {place}: {}   {what}", byte as char)
 }
 
 fn old_way(rt: &HostRuntime) -> io::Result<()> {
@@ -64,83 +67,76 @@ fn old_way(rt: &HostRuntime) -> io::Result<()> {
     )?;
     let mut machines = Machines::new();
     for (place, byte) in SENT {
-        let shown = byte as char;
-        println!(rt; "  sent at {place}: {shown}   passed on: {shown}")?;
+        tell_of(rt, place, byte, format_args!("passed on: {}", byte as char))?;
         machines.receive(place, byte);
     }
     machines.show(rt)
 }
 
-fn send(
-    rt: &HostRuntime,
-    table: &Table,
-    stream: &mut Stream,
-    machines: &mut Machines,
-    place: u64,
-    byte: u8,
-) -> io::Result<()> {
-    let mut payload = [byte];
-    match stream.take(table, Place::At(place), &mut payload, false) {
-        Taken::Passed { .. } => {
-            let [out] = payload;
-            println!(rt;
-                "  sent at {place}: {}   passed on: {}",
-                byte as char, out as char
-            )?;
-            machines.receive(place, out);
-        }
-        Taken::Empty => println!(rt;
-            "  sent at {place}: {}   nothing is left of it",
-            byte as char
-        )?,
-        Taken::Word { place: end, .. } => println!(rt;
-            "  sent at {place}: {}   refused: a word would end at place {end}, and the stream is shut",
-            byte as char
-        )?,
-        Taken::Closed => println!(rt;
-            "  sent at {place}: {}   refused: the stream is shut",
-            byte as char
-        )?,
-    }
-    Ok(())
+// The gate as far as it is needed here: a table of words, and one stream.
+#[derive(Drop)]
+struct Gate {
+    table: Table,
+    stream: Stream,
 }
 
-fn our_way(
-    rt: &HostRuntime,
-    table: &Table,
-    stream: &mut Stream,
-    sent: &[(u64, u8)],
-) -> io::Result<()> {
+impl Gate {
+    fn new(rt: &HostRuntime) -> anyhow::Result<Gate> {
+        let Ok((list, _)) = WordList::read(rt.alloc(), &WORDS) else {
+            return Err(anyhow!("the word list cannot be read"));
+        };
+        let table = Table::build(rt.alloc(), &list)?;
+        let Ok(stream) = Stream::new(rt.alloc(), POWER) else {
+            return Err(anyhow!("no memory for a window"));
+        };
+        Ok(Gate { table, stream })
+    }
+
+    // A byte is sent to a place: the byte that is passed on, if any.
+    fn send(&mut self, rt: &HostRuntime, place: u64, byte: u8) -> io::Result<Option<u8>> {
+        let mut payload = [byte];
+        let taken = self
+            .stream
+            .take(&self.table, Place::At(place), &mut payload, false);
+        match taken {
+            Taken::Passed { .. } => {
+                let [out] = payload;
+                tell_of(rt, place, byte, format_args!("passed on: {}", out as char))?;
+                return Ok(Some(out));
+            }
+            Taken::Empty => tell_of(rt, place, byte, format_args!("nothing is left of it"))?,
+            Taken::Word { place: end, .. } => tell_of(
+                rt,
+                place,
+                byte,
+                format_args!("refused: a word would end at place {end}, and the stream is shut"),
+            )?,
+            Taken::Closed => tell_of(rt, place, byte, format_args!("refused: the stream is shut"))?,
+        }
+        Ok(None)
+    }
+}
+
+// Each time from a stream that begins.
+fn our_way(rt: &HostRuntime, gate: &mut Gate, sent: &[(u64, u8)]) -> io::Result<()> {
+    gate.stream.clear();
     let mut machines = Machines::new();
     for (place, byte) in sent.iter().copied() {
-        send(rt, table, stream, &mut machines, place, byte)?;
+        if let Some(out) = gate.send(rt, place, byte)? {
+            machines.receive(place, out);
+        }
     }
     machines.show(rt)
 }
 
-fn table(rt: &HostRuntime) -> anyhow::Result<Table> {
-    match WordList::read(rt.alloc(), &WORDS) {
-        Ok((list, _)) => Ok(Table::build(rt.alloc(), &list)?),
-        Err(_) => Err(anyhow!("the word list cannot be read")),
-    }
-}
-
-fn tell(rt: &HostRuntime) -> anyhow::Result<()> {
-    let table = table(rt)?;
-    let Ok(mut stream) = Stream::new(rt.alloc(), POWER) else {
-        return Err(anyhow!("no memory for a window"));
-    };
-    old_way(rt)?;
+fn main(rt: HostRuntime) -> anyhow::Result<()> {
+    let mut gate = Gate::new(&rt)?;
+    old_way(&rt)?;
     println!(rt; "The gate keeps one byte for each place:")?;
-    our_way(rt, &table, &mut stream, &SENT)?;
+    our_way(&rt, &mut gate, &SENT)?;
     println!(rt;
         "And where the word comes backward, its last byte first (- is a place that stays empty):"
     )?;
-    stream.clear();
-    our_way(rt, &table, &mut stream, &BACKWARD)?;
+    our_way(&rt, &mut gate, &BACKWARD)?;
     Ok(())
-}
-
-fn main(rt: HostRuntime) -> anyhow::Result<()> {
-    tell(&rt)
 }

@@ -8,7 +8,8 @@ use Rattle.std.proofs.lemmas.Bool.{both_ways, cond_both, cond-true, cond-false, 
 use Rattle.automaton.specs.Text.{Text}
 use Rattle.automaton.specs.Look.{look}
 use Rattle.automaton.proofs.LookLaws.{look_law}
-use Rattle.sequence.specs.Places.{Place, Below, At}
+use Rattle.sequence.specs.declared.Place.{Place}
+use Rattle.sequence.specs.declared.Place.TheVariants.{Below, At}
 use Rattle.window.specs.Known.{Piece, byte_of, byte_or, learn, or_else, overlay, onwards}
 use Rattle.window.proofs.PieceLaws.{none-some, head_from, from_nil, learn_keeps, learn_from, or_either, overlay_at, overlay_from, known_none, cut_inside, inside-cut, cut_again_lem}
 use Rattle.stream.specs.Stream.{Stream, up_to, window_end, inner, next_known, new_text, none_elsewhere, fin_fits, kept_fin, acknowledged_to}

@@ -4,7 +4,8 @@ use Rattle.std.proofs.Common.{◌≡◌, ℕ, ◌+◌, ◌-◌, ◌≤◌, min, 
 use Rattle.std.specs.List.{between}
 use Rattle.std.proofs.lemmas.List.{drop-drop, length-drop, drop_all}
 use Rattle.std.proofs.lemmas.Bool.{cases_lt}
-use Rattle.sequence.specs.Places.{Place, Below, At}
+use Rattle.sequence.specs.declared.Place.{Place}
+use Rattle.sequence.specs.declared.Place.TheVariants.{Below, At}
 use Rattle.window.specs.Known.{Within, cut, piece}
 use Rattle.window.specs.Ring.{Cut}
 use Rattle.stream.specs.Part.{PartOf}

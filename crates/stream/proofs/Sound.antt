@@ -7,7 +7,8 @@ use Rattle.std.proofs.lemmas.Bool.{cond_both, and_parts, leb-true, ltb-true, eqb
 use Rattle.automaton.specs.Text.{Text, nonempty}
 use Rattle.automaton.specs.Look.{look}
 use Rattle.automaton.proofs.LookLaws.{no_word_in_nil, look_law}
-use Rattle.sequence.specs.Places.{Place, Below, At}
+use Rattle.sequence.specs.declared.Place.{Place}
+use Rattle.sequence.specs.declared.Place.TheVariants.{Below, At}
 use Rattle.window.specs.Known.{Known, Piece, byte_of}
 use Rattle.window.proofs.PieceLaws.{none-some, none_since, append_start, learn_keeps, learn-none, or_either, onwards_known, onwards_ends, none_known_lem, cut_inside}
 use Rattle.stream.specs.Stream.{Stream, blank, up_to, window_end, inner, next_known, new_text, none_elsewhere, fin_fits, kept_fin, acknowledged_to, taken}

@@ -8,8 +8,9 @@ use Rattle.std.proofs.lemmas.Bool.{cases_lt, cond_both, cond-true, cond-false, l
 use Rattle.std.proofs.lemmas.Bool.Decides.{nat_tests}
 use Rattle.automaton.specs.Look.{Found, look}
 use Rattle.automaton.specs.Text.{Text, nonempty}
-use Rattle.sequence.specs.Model.{fitting}
-use Rattle.sequence.specs.Places.{Place, Below, At, place_after}
+use Rattle.sequence.specs.declared.Place.{Place}
+use Rattle.sequence.specs.declared.Place.TheVariants.{Below, At}
+use Rattle.sequence.specs.Places.{place_after, fitting}
 use Rattle.window.specs.Known.{Known, Piece, Within, byte_of, cut, learn, none_known, onwards, or_else, overlay, piece}
 use Rattle.window.specs.Shows.{Serves, Shows}
 use Rattle.window.specs.Window.{knows, width}

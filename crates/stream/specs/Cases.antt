@@ -3,7 +3,9 @@ use Rattle.std.specs.Prelude.{◌≡◌, ℕ, true, false, List, [], ◌∷◌, 
 use Rattle.std.specs.List.{AllByRecursion}
 use Rattle.automaton.specs.Text.{Text}
 use Rattle.automaton.specs.States.{states, goto}
-use Rattle.sequence.specs.Places.{Place, Below, At, place_of}
+use Rattle.sequence.specs.declared.Place.{Place}
+use Rattle.sequence.specs.declared.Place.TheVariants.{Below, At}
+use Rattle.sequence.specs.Places.{place_of}
 use Rattle.window.specs.Known.{piece}
 use Rattle.stream.specs.Stream.{Stream, blank}
 use Rattle.stream.specs.Steps.{Arrival, Arrives, Acked, Outcome, Passed, Empty, Word, outcome, step, run}

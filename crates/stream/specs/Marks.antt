@@ -1,6 +1,7 @@
 -- How the marks of a stream move. Assumes nothing.
 use Rattle.std.specs.Prelude.{ℕ, ◌+◌, min, max, cond, ◌&&◌, is_some, Option}
-use Rattle.sequence.specs.Places.{Place, Below, At}
+use Rattle.sequence.specs.declared.Place.{Place}
+use Rattle.sequence.specs.declared.Place.TheVariants.{Below, At}
 use Rattle.stream.specs.Stream.{none_elsewhere}
 
 -- low rises to an acknowledged place, but not above the end of the text

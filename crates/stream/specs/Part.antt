@@ -1,7 +1,7 @@
 -- What of a segment lies inside, as a part of its bytes. Assumes nothing.
 use Rattle.std.specs.Prelude.{◌≡◌, ℕ, ◌+◌, ◌-◌, ◌<◌, ◌≤◌, min, Bool, cond, ◌&&◌, List, length, Some, None, Option, nat_le, nat_lt}
 use Rattle.std.specs.List.{between}
-use Rattle.sequence.specs.Places.{Place}
+use Rattle.sequence.specs.declared.Place.{Place}
 use Rattle.window.specs.Known.{Known, Within, cut, none_known, piece}
 use Rattle.stream.specs.Stream.{none_elsewhere, piece_at, places, up_to}
 use Rattle.stream.specs.declared.part.Part.{Part}

@@ -5,7 +5,7 @@ use Rattle.std.specs.List.{slice_get}
 use Rattle.automaton.specs.Text.{Text, has, nonempty}
 use Rattle.automaton.specs.Look.{Found}
 use Rattle.automaton.specs.LookLaw.{FirstWord}
-use Rattle.sequence.specs.Places.{Below, At}
+use Rattle.sequence.specs.declared.Place.TheVariants.{Below, At}
 use Rattle.window.specs.Known.{Piece, byte_of, byte_or}
 use Rattle.stream.specs.Stream.{Stream, blank, window_end, up_to, inner, next_known, ack_limit}
 use Rattle.stream.specs.Steps.{Segment, Arrival, Arrives, Acked, piece_of, fin_at, Word, outcome, step, passed_by, fins_by, run, passed, fins}

@@ -2,7 +2,8 @@
 use Rattle.std.specs.Prelude.{ℕ, Bool, true, false, cond, not, ◌&&◌, List, [], ◌∷◌, ◌++◌, length, is_some, Some, None, Option}
 use Rattle.automaton.specs.Text.{Text}
 use Rattle.automaton.specs.Look.{Found, look}
-use Rattle.sequence.specs.Places.{Place, place_after}
+use Rattle.sequence.specs.declared.Place.{Place}
+use Rattle.sequence.specs.Places.{place_after}
 use Rattle.window.specs.Known.{Piece}
 use Rattle.stream.specs.Stream.{Stream, piece_at, inner, next_known, new_text, passed_part, kept_fin, shut_down, acknowledged_to, taken}
 

@@ -1,7 +1,8 @@
 -- One direction of a stream as the gate knows it, and what becomes of it as bytes come. Assumes nothing.
 use Rattle.std.specs.Prelude.{ℕ, ◌+◌, ◌-◌, min, max, Bool, true, false, cond, ◌&&◌, [], ◌++◌, length, drop, is_some, Some, None, Option, ◌==◌, nat_le, nat_lt}
 use Rattle.automaton.specs.Text.{Text}
-use Rattle.sequence.specs.Places.{Place, Below, At}
+use Rattle.sequence.specs.declared.Place.{Place}
+use Rattle.sequence.specs.declared.Place.TheVariants.{Below, At}
 use Rattle.window.specs.Known.{Known, Piece, cut, learn, or_else, overlay, onwards, none_known}
 
 -- a text from a place on; its bytes below place 0 are left off

@@ -1,6 +1,5 @@
 // How far one direction of a stream has come.
 ghost use Rattle.std.specs.Prelude.{◌≡◌, ◌<◌, true, false, None};
-ghost use Rattle.sequence.specs.Model.{model_of};
 ghost use Rattle.window.specs.Known.{or_else};
 ghost use Rattle.stream.specs.Marks.{limit_of, low_after};
 
@@ -36,7 +35,7 @@ impl Marks {
 
     // The receiver has acknowledged a place: low rises to it, but not above the end of the text.
     pub fn acknowledged(self, place: Place) -> Marks
-        ensures { result ≡ record { low = low_after self.low self.end (model_of place); end = self.end; fin = self.fin; state = self.state; shut = self.shut } }
+        ensures { result ≡ record { low = low_after self.low self.end place; end = self.end; fin = self.fin; state = self.state; shut = self.shut } }
     {
         match place {
             Place::Below(_) => self,

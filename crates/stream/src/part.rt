@@ -1,15 +1,11 @@
 // What of a segment lies inside.
 ghost use Rattle.std.specs.Prelude.{◌≡◌};
-ghost use Rattle.sequence.specs.Model.{model_of};
 ghost use Rattle.window.specs.Window.{knows, width};
 ghost use Rattle.stream.specs.Part.{PartOf, fin_may_stand, kept_if};
 ghost use Rattle.stream.specs.Stream.{places, up_to};
 
 use crate::stream::Stream;
-use sequence::Place;
-
-// Where places end: at 100 Gbit/s a stream gets there after 23 years.
-const PLACES: u64 = 0x8000_0000_0000_0000;
+use sequence::{PLACES, Place};
 
 // The part of a segment's bytes from `start` up to `end`, whose first byte stands at `place`.
 #[derive(Clone, Copy)]
@@ -29,7 +25,7 @@ impl Stream {
 
     // The part of `len` bytes from a place on that lies in the window and before a known FIN.
     pub(crate) fn part(&self, at: Place, len: usize) -> Part
-        ensures { PartOf self.now.window.low (width self.now.window) self.now.marks.fin (model_of at) len result }
+        ensures { PartOf self.now.window.low (width self.now.window) self.now.marks.fin at len result }
     {
         // bytes below place 0 are left off
         let (first, skip) = match at {

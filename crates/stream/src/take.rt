@@ -2,7 +2,6 @@
 ghost use Rattle.std.specs.Prelude.{◌≡◌, ℕ, true, List, [], ◌∷◌, ◌++◌, length};
 ghost use Rattle.automaton.specs.Tables.{TableOf};
 ghost use Rattle.automaton.specs.Text.{Text, nonempty};
-ghost use Rattle.sequence.specs.Model.{model_of};
 ghost use Rattle.window.specs.Known.{Within, learn, overlay, piece};
 ghost use Rattle.window.specs.Window.{knows, width};
 ghost use Rattle.stream.specs.Shown.{Left, Stands};
@@ -46,7 +45,7 @@ impl Stream {
         ensures width { width self.new.window ≡ width self.old.window }
         ensures left { Left payload.old payload.new result }
         ensures took { (ws : List Text) (before : List Arrival) → nonempty ws ≡ true → TableOf ws table.now → Stands ws before self.old →
-            Took ws before (record { at = model_of at; bytes = payload.old; fin = fin }) self.new payload.new result }
+            Took ws before (record { at = at; bytes = payload.old; fin = fin }) self.new payload.new result }
     {
         if self.marks.shut {
             return Err(Refused::Shut);
@@ -89,7 +88,7 @@ impl Stream {
     // Whether taking this segment would overwrite one of its bytes with another; nothing is written.
     pub fn differs(&self, at: Place, payload: &[u8]) -> bool
         ensures { (ws : List Text) (before : List Arrival) → nonempty ws ≡ true → Stands ws before self.now →
-            Differs (width self.now.window) (run (width self.now.window) ws blank before) (piece_at (model_of at) payload.now) result }
+            Differs (width self.now.window) (run (width self.now.window) ws blank before) (piece_at at payload.now) result }
     {
         let Part { start, end, place } = self.part(at, payload.len());
         self.window.differs(place, &payload[start..end])
@@ -99,7 +98,7 @@ impl Stream {
     pub fn acknowledge(&mut self, place: Place)
         ensures width { width self.new.window ≡ width self.old.window }
         ensures took { (ws : List Text) (before : List Arrival) → nonempty ws ≡ true → Stands ws before self.old →
-            Followed ws (before ++ (Acked (model_of place) ∷ [])) self.new }
+            Followed ws (before ++ (Acked place ∷ [])) self.new }
     {
         if self.marks.shut {
             return;

@@ -3,7 +3,6 @@ use Rattle.std.specs.List.{between}
 use Rattle.std.proofs.lemmas.List.{drop_all}
 use Rattle.std.proofs.lemmas.Slice.{between_to_end}
 use Rattle.packet.specs.Packet.{packet, rewrite}
-use Rattle.sequence.specs.Model.{model_of}
 use Rattle.sequence.specs.Places.{number_of, place_of}
 use Rattle.stream.specs.Stream.{Stream, ack_limit, acknowledged_to}
 use Rattle.filter.specs.Config.{Outside}
@@ -23,7 +22,7 @@ returns-then-not-is_above c = record {
       let old = c.args.packet.now in
       let sg = c.args.segment.now in
       let rd = c.requires in
-      let ep : model_of c.place_of-place.result ≡ acked_at m (packet old) =
+      let ep : c.place_of-place.result ≡ acked_at m (packet old) =
       c.place_of-place.ensures.within (rw c.marks.ensures (low_fits cf m v h ne)) ∙ ap (λ x. place_of v.first x.low sg.acknowledged) c.marks.ensures
       ∙ ap (λ f. place_of f v.stream.marks.low sg.acknowledged) h.first ∙ ap (λ l. place_of m.first l sg.acknowledged) (shown cf m v h).low
       ∙ ap (place_of m.first m.stream.low) rd.1.acknowledged in
@@ -31,7 +30,7 @@ returns-then-not-is_above c = record {
       let no : above (acked_at m (packet old)) c.ack_limit-limit.result ≡ false = sym (ap (λ p. above p c.ack_limit-limit.result) ep) ∙ sym c.is_above.ensures ∙ c.if-not-is_above.true in (
         active cf.quiet (acknowledged_to (acked_at m (packet old)) m.stream) m,
         ap (Update k (active cf.quiet (acknowledged_to (acked_at m (packet old)) m.stream) m) Outside) (as_came_lem m old (acked_at m (packet old)) c.ack_limit-limit.result el no ∙ sym (all_of old)),
-        acked_held cf m v h up c.acknowledge.new.self (model_of c.place_of-place.result) c.acknowledge.ensures.width
+        acked_held cf m v h up c.acknowledge.new.self c.place_of-place.result c.acknowledge.ensures.width
             (c.acknowledge.ensures.took cf.words h.before ne h.stands) _ _ refl (sym (ap (λ p. acknowledged_to p m.stream) ep)) h.first h.opening h.last_ack (sym eq),
       );
 }
@@ -54,7 +53,7 @@ returns c =
       acknowledges = λ cf k m eq ne up h.
           let v = c.args.self.now in
           let limit = c.ack_limit-limit.result in
-          let ep : model_of c.place_of-place.result ≡ acked_at m (packet old) =
+          let ep : c.place_of-place.result ≡ acked_at m (packet old) =
           c.place_of-place.ensures.within (rw c.marks.ensures (low_fits cf m v h ne)) ∙ ap (λ x. place_of v.first x.low sg.acknowledged) c.marks.ensures
           ∙ ap (λ f. place_of f v.stream.marks.low sg.acknowledged) h.first ∙ ap (λ l. place_of m.first l sg.acknowledged) (shown cf m v h).low
           ∙ ap (place_of m.first m.stream.low) rd.1.acknowledged in
@@ -73,7 +72,7 @@ returns c =
           ∙ sym (is_lowered m old (acked_at m (packet old)) limit el yes) in (
             active cf.quiet (acknowledged_to (acked_at m (packet old)) m.stream) m,
             ap (Update k (active cf.quiet (acknowledged_to (acked_at m (packet old)) m.stream) m) Outside) (sym out),
-            acked_held cf m v h up c.acknowledge.new.self (model_of c.place_of-place.result) c.acknowledge.ensures.width
+            acked_held cf m v h up c.acknowledge.new.self c.place_of-place.result c.acknowledge.ensures.width
                 (c.acknowledge.ensures.took cf.words h.before ne h.stands) _ _ refl (sym (ap (λ p. acknowledged_to p m.stream) ep)) h.first h.opening h.last_ack (sym eq),
           );
     }

@@ -1,5 +1,4 @@
 use Rattle.std.proofs.Common.{max, ap, ◌∙◌}
-use Rattle.sequence.specs.Model.{model_of}
 use Rattle.window.specs.Window.{width}
 use Rattle.stream.proofs.PartLaws.{Starts, part_of, starts_at, starts_below}
 use Rattle.stream.proofs.stream.Stream.part.Goals as goal
@@ -8,10 +7,10 @@ use Rattle.stream.proofs.stream.Stream.part.Goals.{in-At, in-Below}
 pub returns : goal.returns
 returns c =
     let code = c.args.self.now in
-    let es : Starts (model_of c.args.at) c.args.len c.match-at.first.0 c.match-at.first.1 = elim c.match-at.branch [
+    let es : Starts c.args.at c.args.len c.match-at.first.0 c.match-at.first.1 = elim c.match-at.branch [
       | in-At w ↦ rw (w.first-is, w.in-At.is) (starts_at w.in-At.i c.args.len)
       | in-Below w ↦ rw (w.first-is, w.in-Below.is, w.min.ensures) (starts_below w.in-Below.n c.args.len)
     ] in
-    part_of code.window.low (width code.window) code.marks.fin (model_of c.args.at) c.args.len c.limit.result c.match-at.first.0 c.match-at.first.1
+    part_of code.window.low (width code.window) code.marks.fin c.args.at c.args.len c.limit.result c.match-at.first.0 c.match-at.first.1
     c.cut-start.result.0 c.cut-start.result.1 c.max.result c.limit.ensures es c.cut-start.ensures.part c.cut-start.ensures.within
     (c.max.ensures ∙ ap (max c.match-at.first.0) c.low.ensures)

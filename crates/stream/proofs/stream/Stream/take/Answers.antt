@@ -3,7 +3,6 @@ use borrow.Rule.Slice.PartMut.{put_mid}
 use Rattle.std.specs.List.{between}
 use Rattle.std.proofs.lemmas.List.Edits.{length-between}
 use Rattle.std.proofs.lemmas.Slice.{between-put_mid, drop-put_mid, take-put_mid_below}
-use Rattle.sequence.specs.Model.{model_of}
 use Rattle.window.specs.Window.{knows, width}
 use Rattle.window.proofs.KnownLaws.{length-overlay}
 use Rattle.stream.specs.Part.{fin_may_stand, kept_if}
@@ -22,7 +21,7 @@ returns-then-self c = record {
   left = refl;
   took = λ ws before ne tb st.
       let v = c.args.self.now in
-      let a : Segment = record { at = model_of c.args.at; bytes = c.args.payload.now; fin = c.args.fin } in
+      let a : Segment = record { at = c.args.at; bytes = c.args.payload.now; fin = c.args.fin } in
       took ws before a (width v.window) v c.args.payload.now (Err Shut) ne refl
       (closed-outcome (width v.window) ws (run (width v.window) ws blank before) a (sym st.shut ∙ c.if-self.true)) st tt;
 }
@@ -33,7 +32,7 @@ returns-then-is_none c = record {
   left = refl;
   took = λ ws before ne tb st.
       let v = c.args.self.now in
-      let a : Segment = record { at = model_of c.args.at; bytes = c.args.payload.now; fin = c.args.fin } in
+      let a : Segment = record { at = c.args.at; bytes = c.args.payload.now; fin = c.args.fin } in
       let s = run (width v.window) ws blank before in
       let so = (promise (width v.window) ws ne before).sound in
       let r = c.part-start.result in
@@ -56,7 +55,7 @@ returns-in-Err c = record {
   left = refl;
   took = λ ws before ne tb st.
       let v = c.args.self.now in
-      let a : Segment = record { at = model_of c.args.at; bytes = c.args.payload.now; fin = c.args.fin } in
+      let a : Segment = record { at = c.args.at; bytes = c.args.payload.now; fin = c.args.fin } in
       let s = run (width v.window) ws blank before in
       let so = (promise (width v.window) ws ne before).sound in
       let r = c.part-start.result in
@@ -84,7 +83,7 @@ returns c =
       );
       took = λ ws before ne tb st.
           let v = c.args.self.now in
-          let a : Segment = record { at = model_of c.args.at; bytes = payload; fin = c.args.fin } in
+          let a : Segment = record { at = c.args.at; bytes = payload; fin = c.args.fin } in
           let s = run (width v.window) ws blank before in
           let so = (promise (width v.window) ws ne before).sound in
           let l = looks ws s v a r st so pa (Ok c.in-Ok.reached)
