@@ -14,7 +14,8 @@ use Rattle.window.proofs.PieceLaws.{none-some}
 use Rattle.stream.specs.Stream.{Stream, none_elsewhere, ack_limit, acknowledged_to}
 use Rattle.stream.specs.Promise.{Sound}
 use Rattle.stream.proofs.Sound.{text_within}
-use Rattle.filter.specs.Config.{Config, Outside, Looms, Key, same_key}
+use Rattle.filter.specs.Config.{Config, Key, same_key}
+use Rattle.filter.specs.declared.side.Side.TheVariants.{Outside, Looms}
 use Rattle.filter.specs.Gate.{Connection, active, Gate}
 use Rattle.filter.specs.Verdict.{Event, Comes, Ticks, Verdict, apply, answer_of}
 use Rattle.filter.specs.Decide.{acked_at, lowered, acknowledges, next, verdict}

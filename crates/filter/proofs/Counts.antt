@@ -5,7 +5,8 @@ use Rattle.std.proofs.lemmas.Bool.{both_ways, cond_both, cond-true, cond-false, 
 use Rattle.packet.specs.Bytes.{Bytes}
 use Rattle.packet.specs.Packet.{Packet, packet, read}
 use Rattle.window.proofs.PieceLaws.{none-some}
-use Rattle.filter.specs.Config.{Config, Outside, Key, same_key}
+use Rattle.filter.specs.Config.{Config, Key, same_key}
+use Rattle.filter.specs.declared.side.Side.TheVariants.{Outside}
 use Rattle.filter.specs.Gate.{Connection, begun, Gate, among, put}
 use Rattle.filter.specs.Verdict.{Event, Comes, Verdict, apply, answer_of, refusal_of}
 use Rattle.filter.specs.Decide.{next, verdict}

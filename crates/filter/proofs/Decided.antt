@@ -16,7 +16,9 @@ use Rattle.stream.specs.Stream.{Stream, taken, ack_limit, acknowledged_to}
 use Rattle.stream.specs.Steps.{Arrives, Segment, piece_of, piece_left, fin_left, Outcome, Passed, Empty, Word, is_empty, outcome}
 use Rattle.stream.proofs.Outcomes.{Done, done, nil_since}
 use Rattle.stream.proofs.Outcomes as outcomes
-use Rattle.filter.specs.Config.{Config, Side, Outside, Looms, opposite, Key, same_key, key_from}
+use Rattle.filter.specs.Config.{Config, opposite, Key, same_key, key_from}
+use Rattle.filter.specs.declared.side.Side.{Side}
+use Rattle.filter.specs.declared.side.Side.TheVariants.{Outside, Looms}
 use Rattle.filter.specs.Gate.{Connection, begun, active, closed, Gate, among, full}
 use Rattle.filter.specs.Verdict.{Event, Comes, Ticks, Verdict, Refuse, Forward, Update, Begin, End, Shut, Elapse}
 use Rattle.filter.specs.Decide.{segment_at, number_left, without_fin, marks_left, packet_left, advanced, reset_to_loom, reset_to_sender, on_outcome, on_segment, syn_alone, opens, continues, from_outside, acked_at, lowered, same_beginning, from_loom, opens_with_bytes, on_packet, on_read, verdict}

@@ -12,7 +12,8 @@ use Rattle.stream.specs.Steps.{Arrival, Arrives, Acked, Outcome, Passed, Empty, 
 use Rattle.stream.specs.Steps as steps
 use Rattle.stream.specs.Promise.{Sound}
 use Rattle.stream.proofs.Next.{stays}
-use Rattle.filter.specs.Config.{Config, Outside, Looms, Key, same_key, key_from}
+use Rattle.filter.specs.Config.{Config, Key, same_key, key_from}
+use Rattle.filter.specs.declared.side.Side.TheVariants.{Outside, Looms}
 use Rattle.filter.specs.Gate.{Connection, Gate, among, put}
 use Rattle.filter.specs.Verdict.{Event, Comes, Ticks, Verdict, apply, answer_of, to_looms}
 use Rattle.filter.specs.Decide.{segment_at, acked_at, reset_to_loom, verdict, next, answer}

@@ -38,7 +38,8 @@ use Rattle.stream.proofs.Kept.{promise}
 use Rattle.stream.proofs.MarkLaws.{text_fits}
 use Rattle.stream.proofs.Outcomes.{Done, closed, done, empty, passes, word}
 use Rattle.stream.proofs.TakeLaws.{run_push}
-use Rattle.filter.specs.Config.{Config, Key, Looms}
+use Rattle.filter.specs.Config.{Config, Key}
+use Rattle.filter.specs.declared.side.Side.TheVariants.{Looms}
 use Rattle.filter.specs.Decide.{advanced, marks_left, number_left, on_outcome, on_segment, packet_left, segment_at}
 use Rattle.filter.specs.Forwards.{edit_left, first_byte, number_at}
 use Rattle.filter.specs.Gate.{Connection}

@@ -14,7 +14,9 @@ use Rattle.packet.proofs.ResetLaws.{reset_reads, reset-fresh, reset_is}
 use Rattle.window.proofs.PieceLaws.{none-some}
 use Rattle.stream.specs.Steps.{Word, fin_left}
 use Rattle.stream.proofs.Sound.{left_at}
-use Rattle.filter.specs.Config.{Config, Side, Outside, Looms, Key, same_key, key_from}
+use Rattle.filter.specs.Config.{Config, Key, same_key, key_from}
+use Rattle.filter.specs.declared.side.Side.{Side}
+use Rattle.filter.specs.declared.side.Side.TheVariants.{Outside, Looms}
 use Rattle.filter.specs.Gate.{Connection, begun, aged, closed, Gate, among, only, find, full, put, remove, elapse, elapsed}
 use Rattle.filter.specs.Verdict.{Event, Comes, Ticks, Verdict, Refuse, Forward, Update, Begin, End, Shut, Elapse, apply, answer_of, refusal_of, out_of}
 use Rattle.filter.specs.Decide.{reset_to_loom, reset_to_sender, syn_alone, from_outside, same_beginning, from_loom, opens_with_bytes, on_read, answer, verdict}

@@ -5,7 +5,8 @@ use Rattle.std.proofs.lemmas.Bool.{both_ways, cases_Bool, cond_both, cond-true, 
 use Rattle.packet.specs.Bytes.{Bytes}
 use Rattle.packet.specs.Packet.{packet}
 use Rattle.packet.specs.Laws.{ReadsAs}
-use Rattle.filter.specs.Config.{Outside, Key, same_key, key_from}
+use Rattle.filter.specs.Config.{Key, same_key, key_from}
+use Rattle.filter.specs.declared.side.Side.TheVariants.{Outside}
 use Rattle.filter.specs.Gate.{Connection, Gate, among, only, find, put, remove}
 
 pub key-same : (k : Key) → same_key k k ≡ true

@@ -7,7 +7,8 @@ use Rattle.packet.specs.Packet.{packet}
 use Rattle.packet.specs.Laws.{ReadsAs}
 use Rattle.packet.proofs.WriteLaws.{sent-right}
 use Rattle.stream.specs.Steps.{is_empty}
-use Rattle.filter.specs.Config.{Config, Outside, Looms, Key, key_from}
+use Rattle.filter.specs.Config.{Config, Key, key_from}
+use Rattle.filter.specs.declared.side.Side.TheVariants.{Outside, Looms}
 use Rattle.filter.specs.Gate.{Connection, begun, active, Gate, among, find, full}
 use Rattle.filter.specs.Verdict.{Comes, Verdict, Refuse, Forward, Update, apply, Out, answer_of}
 use Rattle.filter.specs.Decide.{packet_left, without_fin, syn_alone, opens, continues, from_outside, same_beginning, beginning, bare_reset, from_loom, opens_with_bytes, on_read, verdict}

@@ -16,7 +16,8 @@ use Rattle.stream.specs.Promise as one_stream
 use Rattle.stream.proofs.Next as following
 use Rattle.stream.proofs.Runs.{run-append, passed-append, fins-append, run_sound, run_stays}
 use Rattle.stream.proofs.Honest.{FromSource, run_from, goes_out_lem}
-use Rattle.filter.specs.Config.{Config, Outside, Looms, Key}
+use Rattle.filter.specs.Config.{Config, Key}
+use Rattle.filter.specs.declared.side.Side.TheVariants.{Outside, Looms}
 use Rattle.filter.specs.Gate.{Connection, closed, Gate, among, put}
 use Rattle.filter.specs.Verdict.{Event, Comes, Verdict, apply, Out, answer_of, to_looms}
 use Rattle.filter.specs.Decide.{segment_at, acked_at, verdict, next, answer, run}

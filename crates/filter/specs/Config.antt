@@ -2,16 +2,14 @@
 use Rattle.std.specs.Prelude.{ℕ, Bool, ◌&&◌, List, ◌==◌}
 use Rattle.automaton.specs.Text.{Text}
 use Rattle.packet.specs.Packet.{Packet}
+use Rattle.filter.specs.declared.side.Side.{Side}
+use Rattle.filter.specs.declared.side.Side.TheVariants.{Outside, Looms}
 
 -- width: of the window; quiet: the ticks without a packet after which a stream is ended
 pub record Config : Type 0 where
   pub width : ℕ
   pub quiet : ℕ
   pub words : List Text
-
-pub data Side : Type 0 where
-  Outside : Side
-  Looms : Side
 
 abbrev pub opposite : Side → Side
 opposite Outside = Looms

@@ -8,7 +8,9 @@ use Rattle.sequence.specs.declared.Place.TheVariants.{Below, At}
 use Rattle.sequence.specs.Places.{number_of, place_of}
 use Rattle.stream.specs.Stream.{Stream, ack_limit, acknowledged_to, taken}
 use Rattle.stream.specs.Steps.{Segment, piece_of, Outcome, Passed, Empty, Word, Closed, is_empty, outcome}
-use Rattle.filter.specs.Config.{Config, Side, Outside, Looms, Key, key_from}
+use Rattle.filter.specs.Config.{Config, Key, key_from}
+use Rattle.filter.specs.declared.side.Side.{Side}
+use Rattle.filter.specs.declared.side.Side.TheVariants.{Outside, Looms}
 use Rattle.filter.specs.Gate.{Connection, begun, active, closed, Gate, find, full}
 use Rattle.filter.specs.Verdict.{Event, Comes, Ticks, Verdict, Refuse, Forward, Update, Begin, End, Shut, Elapse, apply, Answer, answer_of}
 

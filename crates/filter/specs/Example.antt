@@ -3,7 +3,8 @@ use Rattle.std.specs.Prelude.{◌≡◌, ℕ, ◌+◌, true, List, [], ◌∷◌
 use Rattle.packet.specs.Bytes.{Bytes, write16, write32}
 use Rattle.packet.specs.Packet.{reset_head, seal}
 use Rattle.window.specs.Known.{piece}
-use Rattle.filter.specs.Config.{Config, Outside, Looms, Key}
+use Rattle.filter.specs.Config.{Config, Key}
+use Rattle.filter.specs.declared.side.Side.TheVariants.{Outside, Looms}
 use Rattle.filter.specs.Gate.{empty}
 use Rattle.filter.specs.Verdict.{Event, Comes}
 use Rattle.filter.specs.Decide.{next, run}

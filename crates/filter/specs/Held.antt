@@ -10,7 +10,8 @@ use Rattle.window.specs.Window.{width}
 use Rattle.stream.specs.Shown.{Stands}
 use Rattle.stream.specs.Steps.{Arrival, run}
 use Rattle.stream.specs.Stream.{blank}
-use Rattle.filter.specs.Config.{Config, Key, Looms, Outside}
+use Rattle.filter.specs.Config.{Config, Key}
+use Rattle.filter.specs.declared.side.Side.TheVariants.{Looms, Outside}
 use Rattle.filter.specs.Decide.{acknowledges, on_segment, reset_to_loom, reset_to_sender}
 use Rattle.filter.specs.Gate.{Connection, closed}
 use Rattle.filter.specs.Verdict.{Refuse, Shut, Update}

@@ -15,7 +15,9 @@ use Rattle.stream.specs.Steps.{Arrival, Arrives, Acked, piece_of, fin_at, Word, 
 use Rattle.stream.specs.Steps as steps
 use Rattle.stream.specs.Promise.{Sound, OneText, Source, Agrees}
 use Rattle.stream.specs.Promise as one_stream
-use Rattle.filter.specs.Config.{Config, Side, Outside, Looms, opposite, Key, same_key, key_from}
+use Rattle.filter.specs.Config.{Config, opposite, Key, same_key, key_from}
+use Rattle.filter.specs.declared.side.Side.{Side}
+use Rattle.filter.specs.declared.side.Side.TheVariants.{Outside, Looms}
 use Rattle.filter.specs.Gate.{Connection, begun, closed, Gate, among, empty, find, full, put, elapsed}
 use Rattle.filter.specs.Verdict.{Event, Comes, Ticks, Verdict, Refuse, Forward, Update, Begin, End, Shut, Elapse, Answer, Out, Refused, Resets, Quiet, refusal_of, out_of, to_looms}
 use Rattle.filter.specs.Decide.{segment_at, without_fin, syn_alone, acked_at, same_beginning, opens_with_bytes, verdict, next, answer, run}

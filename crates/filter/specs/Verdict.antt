@@ -2,7 +2,9 @@
 use Rattle.std.specs.Prelude.{ℕ, List, [], ◌∷◌, Some, None, Option}
 use Rattle.automaton.specs.Look.{Found}
 use Rattle.packet.specs.Bytes.{Bytes}
-use Rattle.filter.specs.Config.{Side, Outside, Looms, Key}
+use Rattle.filter.specs.Config.{Key}
+use Rattle.filter.specs.declared.side.Side.{Side}
+use Rattle.filter.specs.declared.side.Side.TheVariants.{Outside, Looms}
 use Rattle.filter.specs.Gate.{Connection, Gate, put, remove, elapse}
 
 pub data Event : Type 0 where

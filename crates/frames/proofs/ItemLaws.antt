@@ -6,18 +6,18 @@ use Rattle.std.proofs.lemmas.Bool.Decides.{nat_tests}
 use Rattle.packet.specs.Bytes.{Bytes, byte, read16}
 use Rattle.filter.specs.declared.side.Side.{Side}
 use Rattle.filter.specs.Verdict.{Comes}
-use Rattle.frames.specs.Items.{ReadEvent, ReadsItem, model_side, item, packet_item, side_of, ticks_item}
+use Rattle.frames.specs.Items.{ReadEvent, ReadsItem, item, packet_item, side_of, ticks_item}
 use Rattle.frames.specs.declared.fault.Refusal.{Refusal}
 use Rattle.frames.specs.declared.item.Item.{Item}
 
-pub packet-read : (bs : Bytes) (side : Side) (n : ℕ) → byte 1 bs ≤ 1 → model_side side ≡ side_of (byte 1 bs) → n ≡ read16 2 bs → 4 + n ≤ length bs →
-    packet_item bs ≡ Ok (record { event = Comes (model_side side) (take (4 + n - 4) (drop 4 bs)); taken = 4 + n })
+pub packet-read : (bs : Bytes) (side : Side) (n : ℕ) → byte 1 bs ≤ 1 → side ≡ side_of (byte 1 bs) → n ≡ read16 2 bs → 4 + n ≤ length bs →
+    packet_item bs ≡ Ok (record { event = Comes side (take (4 + n - 4) (drop 4 bs)); taken = 4 + n })
 unfolding packet_item
 packet-read bs side n l s e w =
     let m : 4 + n - 4 ≡ n = omega arith in
     let p : packet_item bs ≡ Ok (record { event = Comes (side_of (byte 1 bs)) (take (read16 2 bs) (drop 4 bs)); taken = 4 + read16 2 bs }) = grind (arith, nat_tests) in
-    let q : Comes (model_side side) (take (4 + n - 4) (drop 4 bs)) ≡ Comes (side_of (byte 1 bs)) (take (read16 2 bs) (drop 4 bs)) =
-    ap (λ k. Comes (model_side side) (take k (drop 4 bs))) (m ∙ e) ∙ ap (λ s. Comes s (take (read16 2 bs) (drop 4 bs))) s in
+    let q : Comes side (take (4 + n - 4) (drop 4 bs)) ≡ Comes (side_of (byte 1 bs)) (take (read16 2 bs) (drop 4 bs)) =
+    ap (λ k. Comes side (take k (drop 4 bs))) (m ∙ e) ∙ ap (λ s. Comes s (take (read16 2 bs) (drop 4 bs))) s in
     cc
 
 -- four bytes as one number, and as two of two bytes

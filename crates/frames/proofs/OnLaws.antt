@@ -10,7 +10,8 @@ use Rattle.automaton.specs.declared.fault.ListRefusal.{ListRefusal}
 use Rattle.automaton.specs.declared.fault.ListRefusal.TheVariants as list
 use Rattle.automaton.proofs.ListLaws as lists
 use Rattle.packet.specs.Bytes.{Bytes, byte, read16, read32}
-use Rattle.filter.specs.Config.{Side, Outside, Looms}
+use Rattle.filter.specs.declared.side.Side.{Side}
+use Rattle.filter.specs.declared.side.Side.TheVariants.{Outside, Looms}
 use Rattle.filter.specs.Verdict.{Event, Comes, Ticks}
 use Rattle.frames.specs.Items.{ReadEvent, header, item, side_of}
 use Rattle.frames.specs.Configs.{ReadSettings, configuration, fault_of, refusal_of, with_header, with_list}

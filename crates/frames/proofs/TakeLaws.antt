@@ -5,7 +5,7 @@ use Rattle.std.specs.Io.{ReadsAtMost}
 use Rattle.std.proofs.lemmas.List.{length-drop, length-take-le, with_items_is}
 use Rattle.packet.specs.Bytes.{Bytes}
 use Rattle.filter.specs.Verdict.{Comes}
-use Rattle.frames.specs.Items.{ReadsItem, Placed, event_of, item, model_side}
+use Rattle.frames.specs.Items.{ReadsItem, Placed, event_of, item}
 use Rattle.frames.specs.Buffer.{Inside, pending, placed}
 use Rattle.frames.specs.Configs.{ReadsConfig, configuration, settings_of}
 use Rattle.frames.specs.declared.config.Config.{Config}
@@ -30,7 +30,7 @@ module _ (xs : Bytes) (a e : ℕ) (forward : a ≤ e) (within : e ≤ length xs)
       let p = r.1 in
       let q : take ((a + end) - (a + start)) (drop (a + start) xs) ≡ take (end - start) (drop start (take (e - a) (drop a xs))) = part_part xs a e forward within start end p.2 (omega (arith, r.3, p.1)) in
       record {
-        reads = r.0 ∙ ap (λ (t : Bytes). Ok (record { event = Comes (model_side side) t; taken = n })) (sym q);
+        reads = r.0 ∙ ap (λ (t : Bytes). Ok (record { event = Comes side t; taken = n })) (sym q);
         placed = (omega (arith, p.0), omega (arith, p.1), omega (arith, p.2));
         inside = (omega (arith, p.2), omega (arith, r.3, p.1));
         some = r.2;

@@ -1,12 +1,10 @@
 -- The items of the gate's input as bytes. Assumes nothing.
 use Rattle.std.specs.Prelude.{◌≡◌, ℕ, zero, suc, ◌+◌, ◌-◌, ◌<◌, ◌≤◌, cond, not, ◌&&◌, length, take, drop, Ok, Err, Result, ◌==◌, nat_le, nat_lt}
 use Rattle.packet.specs.Bytes.{Bytes, byte, read16, read32}
-use Rattle.filter.specs.Config.{Outside, Looms}
-use Rattle.filter.specs.Config as model
+use Rattle.filter.specs.declared.side.Side.TheVariants.{Outside, Looms}
 use Rattle.filter.specs.Verdict.{Event, Comes}
 use Rattle.filter.specs.Verdict as event
 use Rattle.filter.specs.declared.side.Side.{Side}
-use Rattle.filter.specs.declared.side.Side.TheVariants as side
 use Rattle.frames.specs.declared.fault.Refusal.{Refusal}
 use Rattle.frames.specs.declared.fault.Refusal.TheVariants.{Cut, Bad, TooMuch, Twice}
 use Rattle.frames.specs.declared.item.Item.{Item}
@@ -24,13 +22,9 @@ pub record ReadEvent : Type 0 where
   pub event : Event
   pub taken : ℕ
 
-abbrev pub side_of : ℕ → model.Side
+abbrev pub side_of : ℕ → Side
 side_of zero = Outside
 side_of (suc n) = Looms
-
-abbrev pub model_side : Side → model.Side
-model_side side.Outside = Outside
-model_side side.Looms = Looms
 
 -- 1, side, length (2 bytes), packet
 unfoldable pub packet_item : Bytes → Result ReadEvent Refusal
@@ -53,7 +47,7 @@ item bs =
 
 -- the event that an item stands for, in the bytes that hold it
 abbrev pub event_of : Bytes → Item → Event
-event_of bs (Packet side start end) = Comes (model_side side) (take (end - start) (drop start bs))
+event_of bs (Packet side start end) = Comes side (take (end - start) (drop start bs))
 event_of bs (Ticks n) = event.Ticks n
 
 -- where the bytes of an item of n bytes stand that begins at `from`

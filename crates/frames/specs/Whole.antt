@@ -3,7 +3,9 @@ use Rattle.std.specs.Prelude.{◌≡◌, ℕ, zero, suc, ◌+◌, ◌/◌, ◌%�
 use Rattle.automaton.specs.Lists.{Valid, written}
 use Rattle.automaton.specs.Text.{Text}
 use Rattle.packet.specs.Bytes.{Bytes, byte}
-use Rattle.filter.specs.Config.{Side, Outside, Looms, Config as Settings}
+use Rattle.filter.specs.Config.{Config as Settings}
+use Rattle.filter.specs.declared.side.Side.{Side}
+use Rattle.filter.specs.declared.side.Side.TheVariants.{Outside, Looms}
 use Rattle.filter.specs.Verdict.{Event, Comes, Ticks}
 use Rattle.frames.specs.Items.{ReadEvent, item, refusal_number}
 use Rattle.frames.specs.Configs.{ReadSettings, configuration}

@@ -1,6 +1,6 @@
 use Rattle.std.proofs.Common.{sym, refl, ap, ◌∙◌, arith}
 use Rattle.std.proofs.lemmas.Bool.Decides.{nat_tests}
-use Rattle.frames.specs.Items.{model_side, packet_item, side_of}
+use Rattle.frames.specs.Items.{packet_item, side_of}
 use Rattle.frames.proofs.ItemLaws.{packet-read}
 use Rattle.frames.proofs.read.read_packet.Goals as goal
 use Rattle.frames.proofs.read.read_packet.Goals.{in-0, in-1}
@@ -26,8 +26,8 @@ returns-then-end-bytes c =
 pub returns : goal.returns
 returns c = (
   elim c.match-from.branch [
-    | in-0 w ↦ packet-read c.args.bytes.now c.match-from.side c.from-end.result (omega (arith, w.in-0.is)) (ap model_side w.side-is ∙ ap side_of (sym w.in-0.is)) (c.from-end.ensures ∙ c.from_be_bytes.ensures) c.if-end-bytes.false
-    | in-1 w ↦ packet-read c.args.bytes.now c.match-from.side c.from-end.result (omega (arith, w.in-1.is)) (ap model_side w.side-is ∙ ap side_of (sym w.in-1.is)) (c.from-end.ensures ∙ c.from_be_bytes.ensures) c.if-end-bytes.false
+    | in-0 w ↦ packet-read c.args.bytes.now c.match-from.side c.from-end.result (omega (arith, w.in-0.is)) (w.side-is ∙ ap side_of (sym w.in-0.is)) (c.from-end.ensures ∙ c.from_be_bytes.ensures) c.if-end-bytes.false
+    | in-1 w ↦ packet-read c.args.bytes.now c.match-from.side c.from-end.result (omega (arith, w.in-1.is)) (w.side-is ∙ ap side_of (sym w.in-1.is)) (c.from-end.ensures ∙ c.from_be_bytes.ensures) c.if-end-bytes.false
   ],
   (refl, omega arith, omega arith),
   omega arith,

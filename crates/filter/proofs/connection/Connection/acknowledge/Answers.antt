@@ -5,7 +5,7 @@ use Rattle.std.proofs.lemmas.Slice.{between_to_end}
 use Rattle.packet.specs.Packet.{packet, rewrite}
 use Rattle.sequence.specs.Places.{number_of, place_of}
 use Rattle.stream.specs.Stream.{Stream, ack_limit, acknowledged_to}
-use Rattle.filter.specs.Config.{Outside}
+use Rattle.filter.specs.declared.side.Side.TheVariants.{Outside}
 use Rattle.filter.specs.Decide.{acked_at, lowered}
 use Rattle.filter.specs.Gate.{active}
 use Rattle.filter.specs.Held.{above}
