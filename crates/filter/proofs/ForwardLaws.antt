@@ -203,16 +203,14 @@ module _ (c : Config) (m : Connection) (v : Value) (h : Held c m v) where
   low_fits ne = omega (arith, shown.low, (sound ne).low_text, text_fits c.width c.words m.stream (sound ne))
 
   module _ (old : Bytes) (sg : Seg) (at : Where) (ne : nonempty c.words ≡ true) (rd : Reads old (Ok sg))
-      (ea : at ≡ place_of v.first v.stream.marks.low sg.number) where
+      (ea : at ≡ place_of m.first m.stream.low sg.number) where
     -- the segment as it came to the stream
     abbrev came : Segment
     came = record { at = at; bytes = between sg.payload (length old) old; fin = sg.marks.fin }
 
     came_is : came ≡ segment_at m (packet old)
     came_is =
-        ap (λ p. record { at = p; bytes = between sg.payload (length old) old; fin = sg.marks.fin })
-        (ea ∙ ap (λ f. place_of f v.stream.marks.low sg.number) h.first ∙ ap (λ l. place_of m.first l sg.number) shown.low
-        ∙ ap (place_of m.first m.stream.low) rd.1.number)
+        ap (λ p. record { at = p; bytes = between sg.payload (length old) old; fin = sg.marks.fin }) (ea ∙ ap (place_of m.first m.stream.low) rd.1.number)
         ∙ ap (λ bs. record { at = (segment_at m (packet old)).at; bytes = bs; fin = sg.marks.fin })
         (between_to_end old sg.payload (length old) (omega arith) ∙ ap (λ i. drop i old) rd.1.payload)
         ∙ ap (λ f. record { at = (segment_at m (packet old)).at; bytes = (packet old).payload; fin = f }) rd.1.fin

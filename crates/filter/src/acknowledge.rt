@@ -11,7 +11,7 @@ use crate::connection::Connection;
 use packet::edit::{Edit, Patch};
 use packet::rewrite::rewrite;
 use packet::segment::Segment;
-use sequence::{Place, number_of, place_of};
+use sequence::{Place, number_of};
 use std::ops::Range;
 
 // Is the place above a limit?
@@ -38,7 +38,7 @@ impl Connection {
             Acknowledges c k m (view packet.old) packet.new self.new result }
     {
         let len = packet.len();
-        let place = place_of(self.first, self.stream.marks().low, segment.acknowledged);
+        let place = self.place(segment.acknowledged);
         let limit = self.stream.ack_limit();
         self.stream.acknowledge(place);
         self.left = quiet;

@@ -1,4 +1,12 @@
 // What the gate holds of a stream.
+ghost use Rattle.std.specs.Prelude.{◌≡◌, true};
+ghost use Rattle.automaton.specs.Text.{nonempty};
+ghost use Rattle.sequence.specs.Places.{place_of};
+ghost use Rattle.filter.specs.Config.{Config};
+ghost use Rattle.filter.specs.Gate.{Connection as Model};
+ghost use Rattle.filter.specs.Held.{Held};
+
+use sequence::{Place, place_of};
 use stream::Stream;
 
 #[derive(Drop)]
@@ -13,4 +21,13 @@ pub struct Connection {
     pub(crate) left: u32,
     // the sender's bytes
     pub(crate) stream: Stream,
+}
+
+impl Connection {
+    // The place near low for which a number stands.
+    pub(crate) fn place(&self, number: u32) -> Place
+        ensures { (c : Config) (m : Model) → nonempty c.words ≡ true → Held c m self.now → result ≡ place_of m.first m.stream.low number }
+    {
+        place_of(self.first, self.stream.marks().low, number)
+    }
 }

@@ -16,7 +16,7 @@ use automaton::Table;
 use packet::edit::{Edit, Patch};
 use packet::rewrite::rewrite;
 use packet::segment::Segment;
-use sequence::{number_of, place_of};
+use sequence::number_of;
 use std::ops::Range;
 use stream::Passed;
 
@@ -78,7 +78,7 @@ impl Connection {
     {
         let start = segment.payload;
         let len = packet.len();
-        let at = place_of(self.first, self.stream.marks().low, segment.number);
+        let at = self.place(segment.number);
         let patch = if self.stream.differs(at, &packet[start..]) {
             Patch::before(packet, start, len)
         } else {

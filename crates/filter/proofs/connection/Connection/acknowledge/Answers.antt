@@ -11,7 +11,6 @@ use Rattle.filter.specs.Gate.{active}
 use Rattle.filter.specs.Held.{above}
 use Rattle.filter.specs.Verdict.{Update}
 use Rattle.filter.proofs.AcknowledgeLaws.{acked_held, all_of, as_came_lem, is_lowered, of_model}
-use Rattle.filter.proofs.ForwardLaws.{low_fits, shown}
 use Rattle.filter.proofs.connection.Connection.acknowledge.Goals as goal
 
 pub returns-then-not-is_above : goal.returns-then-not-is_above
@@ -22,15 +21,13 @@ returns-then-not-is_above c = record {
       let old = c.args.packet.now in
       let sg = c.args.segment.now in
       let rd = c.requires in
-      let ep : c.place_of-place.result ≡ acked_at m (packet old) =
-      c.place_of-place.ensures.within (rw c.marks.ensures (low_fits cf m v h ne)) ∙ ap (λ x. place_of v.first x.low sg.acknowledged) c.marks.ensures
-      ∙ ap (λ f. place_of f v.stream.marks.low sg.acknowledged) h.first ∙ ap (λ l. place_of m.first l sg.acknowledged) (shown cf m v h).low
-      ∙ ap (place_of m.first m.stream.low) rd.1.acknowledged in
+      let ep : c.place-place.result ≡ acked_at m (packet old) =
+      c.place-place.ensures cf m ne h ∙ ap (place_of m.first m.stream.low) rd.1.acknowledged in
       let el = of_model cf m v h (λ (s : Stream). c.ack_limit-limit.result ≡ ack_limit s) (c.ack_limit-limit.ensures cf.words h.before ne h.stands) in
       let no : above (acked_at m (packet old)) c.ack_limit-limit.result ≡ false = sym (ap (λ p. above p c.ack_limit-limit.result) ep) ∙ sym c.is_above.ensures ∙ c.if-not-is_above.true in (
         active cf.quiet (acknowledged_to (acked_at m (packet old)) m.stream) m,
         ap (Update k (active cf.quiet (acknowledged_to (acked_at m (packet old)) m.stream) m) Outside) (as_came_lem m old (acked_at m (packet old)) c.ack_limit-limit.result el no ∙ sym (all_of old)),
-        acked_held cf m v h up c.acknowledge.new.self c.place_of-place.result c.acknowledge.ensures.width
+        acked_held cf m v h up c.acknowledge.new.self c.place-place.result c.acknowledge.ensures.width
             (c.acknowledge.ensures.took cf.words h.before ne h.stands) _ _ refl (sym (ap (λ p. acknowledged_to p m.stream) ep)) h.first h.opening h.last_ack (sym eq),
       );
 }
@@ -53,10 +50,8 @@ returns c =
       acknowledges = λ cf k m eq ne up h.
           let v = c.args.self.now in
           let limit = c.ack_limit-limit.result in
-          let ep : c.place_of-place.result ≡ acked_at m (packet old) =
-          c.place_of-place.ensures.within (rw c.marks.ensures (low_fits cf m v h ne)) ∙ ap (λ x. place_of v.first x.low sg.acknowledged) c.marks.ensures
-          ∙ ap (λ f. place_of f v.stream.marks.low sg.acknowledged) h.first ∙ ap (λ l. place_of m.first l sg.acknowledged) (shown cf m v h).low
-          ∙ ap (place_of m.first m.stream.low) rd.1.acknowledged in
+          let ep : c.place-place.result ≡ acked_at m (packet old) =
+          c.place-place.ensures cf m ne h ∙ ap (place_of m.first m.stream.low) rd.1.acknowledged in
           let el = of_model cf m v h (λ (s : Stream). limit ≡ ack_limit s) (c.ack_limit-limit.ensures cf.words h.before ne h.stands) in
           let yes : above (acked_at m (packet old)) limit ≡ true = sym (ap (λ p. above p limit) ep) ∙ sym c.is_above.ensures ∙ c.if-not-is_above.false in
           let k0 = c.none-edit.ensures in
@@ -72,7 +67,7 @@ returns c =
           ∙ sym (is_lowered m old (acked_at m (packet old)) limit el yes) in (
             active cf.quiet (acknowledged_to (acked_at m (packet old)) m.stream) m,
             ap (Update k (active cf.quiet (acknowledged_to (acked_at m (packet old)) m.stream) m) Outside) (sym out),
-            acked_held cf m v h up c.acknowledge.new.self c.place_of-place.result c.acknowledge.ensures.width
+            acked_held cf m v h up c.acknowledge.new.self c.place-place.result c.acknowledge.ensures.width
                 (c.acknowledge.ensures.took cf.words h.before ne h.stands) _ _ refl (sym (ap (λ p. acknowledged_to p m.stream) ep)) h.first h.opening h.last_ack (sym eq),
           );
     }

@@ -1,8 +1,7 @@
 use Rattle.std.proofs.Common.{◌≡◌, ◌+◌, ◌-◌, ◌≤◌, length, Ok, Err, sym, refl, ap, ◌∙◌, arith}
 use Rattle.std.proofs.lemmas.Bool.{both_ways, cond-false, cond-true}
 use Rattle.std.proofs.lemmas.Result.{err_from_is_err_and}
-use Rattle.sequence.specs.Places.{place_of}
-use Rattle.filter.proofs.ForwardLaws.{differs_model, edit_within, err_left, handles_empty, handles_pass, handles_untaken, low_fits, part_new, pass_left, patched, payload_length, untaken_left, whole_new, within_new}
+use Rattle.filter.proofs.ForwardLaws.{differs_model, edit_within, err_left, handles_empty, handles_pass, handles_untaken, part_new, pass_left, patched, payload_length, untaken_left, whole_new, within_new}
 use Rattle.filter.proofs.connection.Connection.forward.Goals as goal
 use Rattle.filter.proofs.connection.Connection.forward.Goals.{then-differs, else-differs, then-segment, else-segment}
 
@@ -43,8 +42,7 @@ returns-in_err-passed c =
     rw (p.1, p.2) (record {
       left = untaken_left old rest sg.payload l n c.in_err-passed.ensures.left;
       handles = λ cf k m eq ne tb h.
-          let ea = c.place_of-at.ensures.within (rw c.marks.ensures (low_fits cf m v h ne)) ∙ ap (λ x. place_of v.first x.low sg.number) c.marks.ensures in
-          handles_untaken cf m v h old sg c.place_of-at.result ne rd ea c.take.new.self rest (Err c.in_err-passed.field-0.0) c.take.ensures.width
+          handles_untaken cf m v h old sg c.place-at.result ne rd (c.place-at.ensures cf m ne h) c.take.new.self rest (Err c.in_err-passed.field-0.0) c.take.ensures.width
           (c.in_err-passed.ensures.took cf.words h.before ne tb h.stands) k old _ refl refl refl refl refl c.in_err-passed.field-0.0 refl;
     })
 
@@ -62,8 +60,7 @@ returns-in_err-edit c =
     rw (p.1, p.2) (record {
       left = err_left old rest sg.payload l n v.first sg refl c.in_ok-passed.passed c.in_ok-passed.ensures.left _ ed;
       handles = λ cf k m eq ne tb h.
-          let ea = c.place_of-at.ensures.within (rw c.marks.ensures (low_fits cf m v h ne)) ∙ ap (λ x. place_of v.first x.low sg.number) c.marks.ensures in
-          handles_empty cf m v h old sg c.place_of-at.result ne rd ea c.take.new.self rest (Ok c.in_ok-passed.passed) c.take.ensures.width
+          handles_empty cf m v h old sg c.place-at.result ne rd (c.place-at.ensures cf m ne h) c.take.new.self rest (Ok c.in_ok-passed.passed) c.take.ensures.width
           (c.in_ok-passed.ensures.took cf.words h.before ne tb h.stands) k old _ refl refl refl refl refl c.in_ok-passed.passed _ refl ed;
     })
 
@@ -84,10 +81,9 @@ returns c =
       left = pass_left old rest sg.payload l n v.first sg refl passed taken.left least rd.1.payload c.in_ok-edit.edit ed
           c.rewrite-start.new.packet c.rewrite-start.result.0 c.rewrite-start.result.1 c.rewrite-start.ensures.rest;
       handles = λ cf k m eq ne tb h.
-          let ea = c.place_of-at.ensures.within (rw c.marks.ensures (low_fits cf m v h ne)) ∙ ap (λ x. place_of v.first x.low sg.number) c.marks.ensures in
           let took = taken.took cf.words h.before ne tb h.stands in
-          let over = patched cf m v h old sg c.place_of-at.result ne rd ea c.take.new.self rest (Ok passed) c.take.ensures.width took passed refl taken.left
-          c.differs.result (differs_model cf m v h old sg c.place_of-at.result ne rd ea c.differs.result (c.differs.ensures cf.words h.before ne h.stands))
+          let over = patched cf m v h old sg c.place-at.result ne rd (c.place-at.ensures cf m ne h) c.take.new.self rest (Ok passed) c.take.ensures.width took passed refl taken.left
+          c.differs.result (differs_model cf m v h old sg c.place-at.result ne rd (c.place-at.ensures cf m ne h) c.differs.result (c.differs.ensures cf.words h.before ne h.stands))
           c.if-differs.patch
           (λ b. elim c.if-differs.branch [
             | then-differs w ↦ rw w.patch-is w.before-patch.ensures
@@ -97,7 +93,7 @@ returns c =
             | then-differs w ↦ absurd (both_ways _ b w.if-differs.true)
             | else-differs w ↦ rw w.patch-is w.none-patch.ensures.nothing
           ]) l n in
-          handles_pass cf m v h old sg c.place_of-at.result ne rd ea c.take.new.self rest (Ok passed) c.take.ensures.width took
+          handles_pass cf m v h old sg c.place-at.result ne rd (c.place-at.ensures cf m ne h) c.take.new.self rest (Ok passed) c.take.ensures.width took
           k _ c.rewrite-start.new.packet c.rewrite-start.result.0 c.rewrite-start.result.1 c.in_ok-edit.edit c.if-segment.self c.take.auto.payload
           (c.rewrite-start.ensures.out old rd.0 over) (part_new old rest sg.payload l n)
           (elim c.if-segment.branch [ then-segment w ↦ ap (λ x. x.stream) w.self-is | else-segment w ↦ ap (λ x. x.stream) w.self-is ])
