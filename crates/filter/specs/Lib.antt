@@ -7,3 +7,4 @@ pub mod Promise
 pub mod Verdict
 pub mod Forwards
 pub mod Held
+pub mod Sides

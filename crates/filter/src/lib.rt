@@ -8,5 +8,5 @@ pub mod laws;
 mod side;
 mod verdict;
 
-pub use side::Side;
+pub use side::{NoSuchSide, Side};
 pub use verdict::{Dropped, Refusal};

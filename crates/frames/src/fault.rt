@@ -1,4 +1,8 @@
 // Why the reading of the input ends.
+ghost use Rattle.std.specs.Prelude.{◌≡◌};
+ghost use Rattle.frames.specs.declared.fault.Refusal.TheVariants.{Bad};
+
+use filter::NoSuchSide;
 
 #[derive(Clone, Copy, PartialEq, Eq, Debug)]
 pub enum Refusal {
@@ -10,6 +14,14 @@ pub enum Refusal {
     TooMuch,
     // the same word twice
     Twice,
+}
+
+impl From<NoSuchSide> for Refusal {
+    ghost from_gives = { λ _ r. r ≡ Bad };
+
+    fn from(_e: NoSuchSide) -> Refusal {
+        Refusal::Bad
+    }
 }
 
 // A refusal, and the byte at which it stands: the first of its item, or that of the length of a word.

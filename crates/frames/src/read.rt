@@ -1,4 +1,5 @@
 // Reading the configuration and the items from the front of some bytes.
+ghost use Rattle.frames.specs.Kinds.{KindOf};
 ghost use Rattle.frames.specs.Items.{ReadsItem, header, item, packet_item, refusal_number, ticks_item};
 ghost use Rattle.frames.specs.Configs.{OnFault, ReadsConfig, error_of};
 ghost use Rattle.std.specs.Prelude.{◌≡◌, ◌+◌, ◌^◌, ◌<◌, ◌≤◌, length, IfOk};
@@ -11,6 +12,29 @@ use filter::Side;
 use std::alloc::Global;
 
 const HEADER: usize = 6;
+
+// What stands in the input, by its first byte.
+#[derive(Clone, Copy, PartialEq, Eq, Debug)]
+enum Kind {
+    Packet,
+    Ticks,
+    Config,
+}
+
+impl TryFrom<u8> for Kind {
+    type Error = Refusal;
+
+    ghost try_from_gives = { KindOf };
+
+    fn try_from(number: u8) -> Result<Kind, Refusal> {
+        match number {
+            1 => Ok(Kind::Packet),
+            2 => Ok(Kind::Ticks),
+            3 => Ok(Kind::Config),
+            _ => Err(Refusal::Bad),
+        }
+    }
+}
 
 impl Refusal {
     // The number under which a refusal is reported.
@@ -33,11 +57,7 @@ fn read_packet(bytes: &[u8]) -> Result<(Item, usize), Refusal>
     let [_, from, ..] = bytes else {
         return Err(Refusal::Cut);
     };
-    let side = match *from {
-        0 => Side::Outside,
-        1 => Side::Looms,
-        _ => return Err(Refusal::Bad),
-    };
+    let side = Side::try_from(*from)?;
     let [_, _, high, low, ..] = bytes else {
         return Err(Refusal::Cut);
     };
@@ -73,10 +93,10 @@ impl Item {
         let [kind, ..] = bytes else {
             return Err(Refusal::Cut);
         };
-        match *kind {
-            1 => read_packet(bytes),
-            2 => read_ticks(bytes),
-            _ => Err(Refusal::Bad),
+        match Kind::try_from(*kind)? {
+            Kind::Packet => read_packet(bytes),
+            Kind::Ticks => read_ticks(bytes),
+            Kind::Config => Err(Refusal::Bad),
         }
     }
 }
@@ -89,7 +109,7 @@ fn read_header(bytes: &[u8]) -> Result<(u8, u32), Refusal>
     let [kind, ..] = bytes else {
         return Err(Refusal::Cut);
     };
-    if *kind != 3 {
+    if Kind::try_from(*kind)? != Kind::Config {
         return Err(Refusal::Bad);
     }
     let [_, power, ..] = bytes else {
