@@ -61,21 +61,16 @@ impl Bench {
 
 // Bytes that go on without a FIN.
 pub fn passed(start: usize, end: usize, place: u64) -> Taken {
-    Taken::Passed {
-        start,
-        end,
-        place,
-        fin: None,
-    }
+    passed_fin(start, end, place, None)
 }
 
-// Bytes, or none, and a FIN.
-pub fn passed_fin(start: usize, end: usize, place: u64, fin: u64) -> Taken {
+// Bytes, or none, and a FIN where one goes on.
+pub fn passed_fin(start: usize, end: usize, place: u64, fin: Option<u64>) -> Taken {
     Taken::Passed {
         start,
         end,
         place,
-        fin: Some(fin),
+        fin,
     }
 }
 

@@ -9,9 +9,8 @@ const PIECES: [(u64, [u8; 3]); 4] = [(0, *b"abc"), (2, *b"cde"), (4, *b"efg"), (
 // The end of the text once these pieces came, in whichever order.
 fn end_of(came: &[bool; 4]) -> u64 {
     let mut end = 0;
-    for k in 0..4 {
-        let (place, bytes) = PIECES[k];
-        if came[k] && place <= end {
+    for ((place, bytes), came) in PIECES.iter().zip(came) {
+        if *came && *place <= end {
             end = place.saturating_add(bytes.len() as u64);
         }
     }
@@ -23,13 +22,12 @@ fn try_order(bench: &mut Bench, order: usize, word: Option<u64>) -> Result<(), F
     bench.stream.clear();
     bench.case = order;
     let mut came = [false; 4];
-    let mut rest = order;
-    for _ in 0..4 {
-        let (place, bytes) = PIECES[rest % 4];
+    for rest in [order, order / 4, order / 16, order / 64] {
+        let piece = rest % 4;
+        let (place, bytes) = PIECES[piece];
         let before = end_of(&came);
-        came[rest % 4] = true;
+        came[piece] = true;
         let after = end_of(&came);
-        rest /= 4;
         match word {
             Some(found) if after > found => {
                 bench.sends(Place::At(place), bytes, false, word_at(found, 0), bytes)?;

@@ -82,13 +82,19 @@ fn window_moves(rt: HostRuntime) -> Result<(), Fail> {
 fn fin_is_last(rt: HostRuntime) -> Result<(), Fail> {
     let mut bench = Bench::new(&rt, b"\x01\x02zz")?;
     // FIN first: what comes at it or after it is left off, and no other is kept
-    bench.sends(Place::At(4), *b"", true, passed_fin(0, 0, 4, 4), *b"")?;
+    bench.sends(Place::At(4), *b"", true, passed_fin(0, 0, 4, Some(4)), *b"")?;
     bench.sends(Place::At(4), *b"e", false, Taken::Empty, *b"e")?;
     bench.sends(Place::At(2), *b"cde", true, passed(0, 2, 2), *b"cde")?;
     bench.reaches(0, 0)?;
     bench.sends(Place::At(0), *b"ab", true, passed(0, 2, 0), *b"ab")?;
     bench.reaches(4, 5)?;
-    bench.sends(Place::At(3), *b"d", true, passed_fin(0, 1, 3, 4), *b"d")?;
+    bench.sends(
+        Place::At(3),
+        *b"d",
+        true,
+        passed_fin(0, 1, 3, Some(4)),
+        *b"d",
+    )?;
     assert!(rt; bench.stream.marks().fin == Some(4));
     // bytes first: no FIN before their end
     bench.stream.clear();
@@ -96,7 +102,7 @@ fn fin_is_last(rt: HostRuntime) -> Result<(), Fail> {
     bench.sends(Place::At(2), *b"cd", true, passed(0, 2, 2), *b"cd")?;
     bench.sends(Place::At(4), *b"", true, Taken::Empty, *b"")?;
     bench.reaches(6, 6)?;
-    bench.sends(Place::At(6), *b"", true, passed_fin(0, 0, 6, 6), *b"")?;
+    bench.sends(Place::At(6), *b"", true, passed_fin(0, 0, 6, Some(6)), *b"")?;
     bench.reaches(6, 7)
 }
 
