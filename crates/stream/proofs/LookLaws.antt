@@ -1,12 +1,12 @@
 -- Looking at the new bytes of a text, part after part.
 -- Assumes nothing.
-use Rattle.std.proofs.Common.{◌≡◌, ℕ, zero, suc, ◌+◌, ◌-◌, ◌<◌, ◌≤◌, ◌⊎◌, List, [], ◌∷◌, ◌++◌, length, get_or, take, drop, Some, None, Option, sym, refl, ap, ◌∙◌, subst, ⊎_elim, arith, take-add}
+use Rattle.std.proofs.Common.{◌≡◌, ℕ, zero, suc, ◌+◌, ◌-◌, ◌<◌, ◌≤◌, ◌⊎◌, List, [], ◌∷◌, ◌++◌, length, get_or, take, drop, Some, None, Ok, Err, Option, sym, refl, ap, ◌∙◌, subst, ⊎_elim, arith, take-add}
 use Rattle.std.proofs.lemmas.List.{append-nil, length-take, length-drop, length-append, take-append-drop}
 use Rattle.automaton.specs.Look.{look}
 use Rattle.automaton.specs.Scanned.{Judged}
 use Rattle.automaton.specs.States.{run}
 use Rattle.automaton.specs.Text.{Text}
-use Rattle.automaton.specs.declared.scan.Finding.TheVariants.{Clean, Found}
+use Rattle.automaton.specs.declared.scan.Match.{Match}
 use Rattle.automaton.proofs.JudgedLaws.{judged_append, judged_on}
 use Rattle.window.specs.Known.{Known, learn, on_byte, onwards, overlay, piece}
 use Rattle.window.specs.Ring.{Front}
@@ -14,7 +14,7 @@ use Rattle.window.proofs.KnownLaws.{inside-above, inside_below, learn_outside, l
 use Rattle.stream.specs.Looked.{LookOf}
 use Rattle.stream.specs.declared.look.Looked.TheVariants as looked
 
-pub judged_none : (ws : List Text) (t : Text) (s : ℕ) → s ≡ run ws 0 t → Judged ws t [] (Clean s)
+pub judged_none : (ws : List Text) (t : Text) (s : ℕ) → s ≡ run ws 0 t → Judged ws t [] (Ok s)
 unfolding look
 judged_none ws t s e = (refl, e ∙ ap (run ws 0) (sym (append-nil t)))
 
@@ -37,16 +37,16 @@ module _ (f : Known) (i d : ℕ) (bs rest front : List ℕ) (l : d ≤ length bs
   pub front_most : d + length front ≤ length bs
   front_most = let n : length front ≤ length (drop d bs) = subst (λ (x : List ℕ). length front ≤ length x) e fr.most in omega (arith, length-drop d bs)
 
-  pub part_more : (ws : List Text) (t : Text) (s u : ℕ) → Judged ws t seen (Clean s) → Judged ws (t ++ seen) front (Clean u) → Judged ws t (take (d + length front) (overlay f i bs)) (Clean u)
-  part_more ws t s u a b = subst (λ (x : List ℕ). Judged ws t x (Clean u)) seen_more (judged_append ws t seen front s (Clean u) a b)
+  pub part_more : (ws : List Text) (t : Text) (s u : ℕ) → Judged ws t seen (Ok s) → Judged ws (t ++ seen) front (Ok u) → Judged ws t (take (d + length front) (overlay f i bs)) (Ok u)
+  part_more ws t s u a b = subst (λ (x : List ℕ). Judged ws t x (Ok u)) seen_more (judged_append ws t seen front s (Ok u) a b)
 
-  pub part_found : (ws : List Text) (t : Text) (s k w : ℕ) → Judged ws t seen (Clean s) → Judged ws (t ++ seen) front (Found k w) → Judged ws t (overlay f i bs) (Found (d + k) w)
-  part_found ws t s k w a b =
+  pub part_found : (ws : List Text) (t : Text) (s : ℕ) (m : Match) → Judged ws t seen (Ok s) → Judged ws (t ++ seen) front (Err m) → Judged ws t (overlay f i bs) (Err (record { at = d + m.at; word = m.word }))
+  part_found ws t s m a b =
       let n : length seen ≡ d = length-take d (overlay f i bs) ∙ omega (arith, length-overlay f i bs) in
-      subst (λ (x : List ℕ). Judged ws t x (Found (d + k) w)) (take-append-drop (d + length front) (overlay f i bs))
-      (judged_on ws t (take (d + length front) (overlay f i bs)) (drop (d + length front) (overlay f i bs)) (d + k) w
-      (subst (λ (x : List ℕ). Judged ws t x (Found (d + k) w)) seen_more
-      (subst (λ (m : ℕ). Judged ws t (seen ++ front) (Found (m + k) w)) n (judged_append ws t seen front s (Found k w) a b))))
+      subst (λ (x : List ℕ). Judged ws t x (Err (record { at = d + m.at; word = m.word }))) (take-append-drop (d + length front) (overlay f i bs))
+      (judged_on ws t (take (d + length front) (overlay f i bs)) (drop (d + length front) (overlay f i bs)) (record { at = d + m.at; word = m.word })
+      (subst (λ (x : List ℕ). Judged ws t x (Err (record { at = d + m.at; word = m.word }))) seen_more
+      (subst (λ (n : ℕ). Judged ws t (seen ++ front) (Err (record { at = n + m.at; word = m.word }))) n (judged_append ws t seen front s (Err m) a b))))
 
 -- The bytes by which the text grows
 
@@ -77,9 +77,9 @@ module _ (f : Known) (low w end place : ℕ) (bs : List ℕ) (above : low ≤ en
       ∙ sym (onwards-learn w place end bs f a (omega arith) (omega arith))
 
 -- what was found in the new bytes, by places
-pub looked_clean : (ws : List Text) (t new more : Text) (s end : ℕ) → new ≡ more → end ≡ length t + length new → Judged ws t new (Clean s) → LookOf ws t more (looked.Clean end s)
+pub looked_clean : (ws : List Text) (t new more : Text) (s end : ℕ) → new ≡ more → end ≡ length t + length new → Judged ws t new (Ok s) → LookOf ws t more (looked.Clean end s)
 looked_clean ws t new more s end e n j = subst (λ (x : Text). LookOf ws t x (looked.Clean end s)) e (j.0, n ∙ sym (length-append t new), j.1)
 
-pub looked_word : (ws : List Text) (t new more : Text) (i w place : ℕ) → new ≡ more → place ≡ length t + i → Judged ws t new (Found i w) → LookOf ws t more (looked.Word place w)
-looked_word ws t new more i w place e n j =
-    subst (λ (x : Text). LookOf ws t x (looked.Word place w)) e (j.1, j.2 ∙ ap (λ p. Some (record { place = p; word = get_or ws w [] })) (sym n))
+pub looked_word : (ws : List Text) (t new more : Text) (m : Match) (place : ℕ) → new ≡ more → place ≡ length t + m.at → Judged ws t new (Err m) → LookOf ws t more (looked.Word place m.word)
+looked_word ws t new more m place e n j =
+    subst (λ (x : Text). LookOf ws t x (looked.Word place m.word)) e (j.1, j.2 ∙ ap (λ p. Some (record { place = p; word = get_or ws m.word [] })) (sym n))

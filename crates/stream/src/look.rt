@@ -8,7 +8,7 @@ ghost use Rattle.window.specs.Known.{Within, learn, onwards, overlay, piece};
 ghost use Rattle.window.specs.Window.{knows, width};
 ghost use Rattle.stream.specs.Looked.{LookOf};
 
-use automaton::{Finding, Table};
+use automaton::{Match, Table};
 use window::Window;
 
 // What the look comes to: where the text ends then, and the state of the look; or the place of the first byte that completes a word, and the word's number.
@@ -19,7 +19,13 @@ pub enum Looked {
 }
 
 // Looks at the bytes of a part, the known byte in place of what came.
-fn look_part(window: &Window, table: &Table, state: u16, place: u64, part: &[u8]) -> Finding
+fn look_part(
+    window: &Window,
+    table: &Table,
+    state: u16,
+    place: u64,
+    part: &[u8],
+) -> Result<u16, Match>
     requires within { Within window.now.low (width window.now) place (length part.now) }
     requires fits { place + length part.now < 18446744073709551616 }
     ensures among { Among (length part.now) result }
@@ -31,25 +37,31 @@ fn look_part(window: &Window, table: &Table, state: u16, place: u64, part: &[u8]
     while done < part.len() {
         let front = window.overlaid_front(place + done as u64, &part[done..]);
         match table.look(reached, front) {
-            Finding::Clean(next) => reached = next,
-            Finding::Found(i, word) => return Finding::Found(done + i, word),
+            Ok(next) => reached = next,
+            Err(found) => return Err(Match {
+                at: done + found.at,
+                word: found.word,
+            }),
         }
         done += front.len();
     }
-    Finding::Clean(reached)
+    Ok(reached)
 }
 
 // Looks at two parts, one after the other.
-fn look_both(table: &Table, state: u16, first: &[u8], second: &[u8]) -> Finding
+fn look_both(table: &Table, state: u16, first: &[u8], second: &[u8]) -> Result<u16, Match>
     ensures among { Among (length first.now + length second.now) result }
     ensures finds { (ws : List Text) (t : Text) → TableOf ws table.now → state ≡ run ws 0 t →
         Judged ws t (first.now ++ second.now) result }
 {
     match table.look(state, first) {
-        Finding::Found(i, word) => Finding::Found(i, word),
-        Finding::Clean(next) => match table.look(next, second) {
-            Finding::Found(i, word) => Finding::Found(first.len() + i, word),
-            Finding::Clean(last) => Finding::Clean(last),
+        Err(found) => Err(found),
+        Ok(next) => match table.look(next, second) {
+            Err(found) => Err(Match {
+                at: first.len() + found.at,
+                word: found.word,
+            }),
+            Ok(last) => Ok(last),
         },
     }
 }
@@ -75,23 +87,23 @@ pub(crate) fn look(
     }
     let new = &part[(end - place) as usize..];
     let next = match look_part(window, table, state, end, new) {
-        Finding::Clean(next) => next,
-        Finding::Found(i, word) => {
+        Ok(next) => next,
+        Err(found) => {
             return Looked::Word {
-                place: end + i as u64,
-                word,
+                place: end + found.at as u64,
+                word: found.word,
             };
         }
     };
     let (first, second) = window.known_from(reach);
     match look_both(table, next, first, second) {
-        Finding::Clean(last) => Looked::Clean {
+        Ok(last) => Looked::Clean {
             end: reach + (first.len() + second.len()) as u64,
             state: last,
         },
-        Finding::Found(i, word) => Looked::Word {
-            place: reach + i as u64,
-            word,
+        Err(found) => Looked::Word {
+            place: reach + found.at as u64,
+            word: found.word,
         },
     }
 }

@@ -1,10 +1,10 @@
-use Rattle.std.proofs.Common.{◌≡◌, ℕ, ◌+◌, ◌-◌, ◌<◌, ◌≤◌, List, [], ◌++◌, length, None, sym, ap, ◌∙◌, inl, inr, ⊎_elim, arith}
+use Rattle.std.proofs.Common.{◌≡◌, ℕ, ◌+◌, ◌-◌, ◌<◌, ◌≤◌, List, [], ◌++◌, length, None, Ok, Err, sym, ap, ◌∙◌, inl, inr, ⊎_elim, arith}
 use Rattle.std.specs.List.{between}
 use Rattle.std.proofs.lemmas.List.{length-append, length-drop}
 use Rattle.std.proofs.lemmas.Slice.{between_to_end}
 use Rattle.automaton.specs.Scanned.{Judged}
 use Rattle.automaton.specs.Text.{Text}
-use Rattle.automaton.specs.declared.scan.Finding.TheVariants.{Clean, Found}
+use Rattle.automaton.specs.declared.scan.Match.{Match}
 use Rattle.automaton.proofs.JudgedLaws.{judged_append, judged_on}
 use Rattle.window.specs.Known.{Within, learn, onwards, overlay, piece}
 use Rattle.window.specs.Window.{knows, width}
@@ -46,48 +46,48 @@ module _ (w : Window) (ws : List Text) (t : Text) (end place : ℕ) (bs xs ys : 
       ap (λ x. overlay (knows w) end x ++ more) (between_to_end bs (end - place) (length bs) (omega arith))
       ∙ grown_by (knows w) w.low (width w) end place bs a k (knows-above w) from to (within.below (omega arith))
 
-  found_part : (i v : ℕ) → Judged ws t part (Found i v) → LookOf ws t (onwards (width w) end (learn (piece place bs) (knows w))) (looked.Word (end + i) v)
-  found_part i v j = looked_word ws t (part ++ more) _ i v (end + i) is (omega arith) (judged_on ws t part more i v j)
+  found_part : (m : Match) → Judged ws t part (Err m) → LookOf ws t (onwards (width w) end (learn (piece place bs) (knows w))) (looked.Word (end + m.at) m.word)
+  found_part m j = looked_word ws t (part ++ more) _ m (end + m.at) is (omega arith) (judged_on ws t part more m j)
 
-  module _ (known : xs ++ ys ≡ more) (s : ℕ) (clean : Judged ws t part (Clean s)) where
-    found_known : (i v : ℕ) → Judged ws (t ++ part) (xs ++ ys) (Found i v) → LookOf ws t (onwards (width w) end (learn (piece place bs) (knows w))) (looked.Word (place + length bs + i) v)
-    found_known i v j =
-        looked_word ws t (part ++ (xs ++ ys)) _ (length part + i) v (place + length bs + i) (ap (λ x. part ++ x) known ∙ is) (omega (arith, long))
-        (judged_append ws t part (xs ++ ys) s (Found i v) clean j)
+  module _ (known : xs ++ ys ≡ more) (s : ℕ) (clean : Judged ws t part (Ok s)) where
+    found_known : (m : Match) → Judged ws (t ++ part) (xs ++ ys) (Err m) → LookOf ws t (onwards (width w) end (learn (piece place bs) (knows w))) (looked.Word (place + length bs + m.at) m.word)
+    found_known m j =
+        looked_word ws t (part ++ (xs ++ ys)) _ (record { at = length part + m.at; word = m.word }) (place + length bs + m.at) (ap (λ x. part ++ x) known ∙ is) (omega (arith, long))
+        (judged_append ws t part (xs ++ ys) s (Err m) clean j)
 
-    clean_known : (u : ℕ) → Judged ws (t ++ part) (xs ++ ys) (Clean u) → LookOf ws t (onwards (width w) end (learn (piece place bs) (knows w))) (looked.Clean (place + length bs + (length xs + length ys)) u)
+    clean_known : (u : ℕ) → Judged ws (t ++ part) (xs ++ ys) (Ok u) → LookOf ws t (onwards (width w) end (learn (piece place bs) (knows w))) (looked.Clean (place + length bs + (length xs + length ys)) u)
     clean_known u j =
         looked_clean ws t (part ++ (xs ++ ys)) _ u (place + length bs + (length xs + length ys)) (ap (λ x. part ++ x) known ∙ is)
-        (let l = length-append part (xs ++ ys) in let m = length-append xs ys in omega (arith, long)) (judged_append ws t part (xs ++ ys) s (Clean u) clean j)
+        (let l = length-append part (xs ++ ys) in let m = length-append xs ys in omega (arith, long)) (judged_append ws t part (xs ++ ys) s (Ok u) clean j)
 
-pub returns-in-Found : goal.returns-in-Found
-returns-in-Found c ws t h e n a k =
+pub returns-in-Err : goal.returns-in-Err
+returns-in-Err c ws t h e n a k =
     found_part c.args.window.now ws t c.args.end c.args.place c.args.part.now [] [] n a k c.if-place-end.false c.if-reach-end.false c.requires.within
-    c.in-Found.i c.in-Found.word (c.in-Found.ensures.finds ws t h e)
+    c.in-Err.found (c.in-Err.ensures.finds ws t h e)
 
-pub overflow_add-result-in-Clean-look_both-2 : goal.overflow_add-result-in-Clean-look_both-2
-overflow_add-result-in-Clean-look_both-2 c =
+pub overflow_add-result-in-Ok-look_both-2 : goal.overflow_add-result-in-Ok-look_both-2
+overflow_add-result-in-Ok-look_both-2 c =
     omega (arith, run_most c.args.window.now (c.args.place + length c.args.part.now) c.known_from.result.0.now c.known_from.result.1.now c.known_from.ensures, c.requires.fits (omega arith))
 
-pub overflow_add-result-in-Found-look_both : goal.overflow_add-result-in-Found-look_both
-overflow_add-result-in-Found-look_both c =
+pub overflow_add-result-in-Err-look_both : goal.overflow_add-result-in-Err-look_both
+overflow_add-result-in-Err-look_both c =
     omega (
       arith,
       run_most c.args.window.now (c.args.place + length c.args.part.now) c.known_from.result.0.now c.known_from.result.1.now c.known_from.ensures,
       c.requires.fits (omega arith),
-      c.in-Found-look_both.ensures.among,
+      c.in-Err-look_both.ensures.among,
     )
 
-pub returns-in-Clean-look_both : goal.returns-in-Clean-look_both
-returns-in-Clean-look_both c ws t h e n a k =
-    let j = c.in-Clean.ensures.finds ws t h e in
+pub returns-in-Ok-look_both : goal.returns-in-Ok-look_both
+returns-in-Ok-look_both c ws t h e n a k =
+    let j = c.in-Ok.ensures.finds ws t h e in
     clean_known c.args.window.now ws t c.args.end c.args.place c.args.part.now c.known_from.result.0.now c.known_from.result.1.now n a k
-    c.if-place-end.false c.if-reach-end.false c.requires.within c.known_from.ensures c.in-Clean.next j
-    c.in-Clean-look_both.last (c.in-Clean-look_both.ensures.finds ws _ h j.1)
+    c.if-place-end.false c.if-reach-end.false c.requires.within c.known_from.ensures c.in-Ok.next j
+    c.in-Ok-look_both.last (c.in-Ok-look_both.ensures.finds ws _ h j.1)
 
-pub returns-in-Found-look_both : goal.returns-in-Found-look_both
-returns-in-Found-look_both c ws t h e n a k =
-    let j = c.in-Clean.ensures.finds ws t h e in
+pub returns-in-Err-look_both : goal.returns-in-Err-look_both
+returns-in-Err-look_both c ws t h e n a k =
+    let j = c.in-Ok.ensures.finds ws t h e in
     found_known c.args.window.now ws t c.args.end c.args.place c.args.part.now c.known_from.result.0.now c.known_from.result.1.now n a k
-    c.if-place-end.false c.if-reach-end.false c.requires.within c.known_from.ensures c.in-Clean.next j
-    c.in-Found-look_both.i c.in-Found-look_both.word (c.in-Found-look_both.ensures.finds ws _ h j.1)
+    c.if-place-end.false c.if-reach-end.false c.requires.within c.known_from.ensures c.in-Ok.next j
+    c.in-Err-look_both.found (c.in-Err-look_both.ensures.finds ws _ h j.1)
