@@ -7,7 +7,7 @@ use Rattle.packet.specs.Bytes.{Bytes, byte, read16}
 use Rattle.filter.specs.declared.side.Side.{Side}
 use Rattle.filter.specs.Verdict.{Comes}
 use Rattle.frames.specs.Items.{ReadEvent, ReadsItem, model_side, item, packet_item, side_of, ticks_item}
-use Rattle.frames.specs.declared.fault.Refusal.{Refusal}
+use Rattle.frames.specs.declared.refusal.Refusal.{Refusal}
 use Rattle.frames.specs.declared.item.Item.{Item}
 
 pub packet-read : (bs : Bytes) (side : Side) (n : ℕ) → byte 1 bs ≤ 1 → model_side side ≡ side_of (byte 1 bs) → n ≡ read16 2 bs → 4 + n ≤ length bs →
