@@ -1,13 +1,12 @@
 -- Looks at bytes that come in several parts.
 -- Assumes nothing.
-use Rattle.std.proofs.Common.{◌≡◌, ℕ, ◌+◌, List, [], ◌∷◌, ◌++◌, length, get_or, Some, None, Option, sym, ap, ◌∙◌, append_assoc, arith}
+use Rattle.std.proofs.Common.{◌≡◌, ℕ, ◌+◌, List, [], ◌∷◌, ◌++◌, length, get_or, Some, None, Ok, Err, Option, Result, sym, ap, ◌∙◌, append_assoc, arith}
 use Rattle.std.proofs.lemmas.List.{append-nil, length-append}
 use Rattle.automaton.specs.Look.{last_word, look, or_found}
 use Rattle.automaton.specs.Scanned.{Judged}
 use Rattle.automaton.specs.States.{run}
 use Rattle.automaton.specs.Text.{Text}
-use Rattle.automaton.specs.declared.scan.Finding.{Finding}
-use Rattle.automaton.specs.declared.scan.Finding.TheVariants as finding
+use Rattle.automaton.specs.declared.scan.Match.{Match}
 use Rattle.automaton.proofs.Looks.{look_on}
 
 -- where the first bytes complete no word, the others are looked at after them
@@ -21,21 +20,21 @@ look-append ws (x ∷ xs) ys t e = go (look-append ws xs ys (t ++ (x ∷ []))) (
     go h (Some w) g = absurd (let z : ◌≡◌ {A = ℕ} 0 1 = cc in omega arith)
     go h None g = h g ∙ ap (λ u. look ws u ys) (append_assoc t (x ∷ []) xs)
 
--- a finding among bytes that stand n bytes further on
-abbrev pub later : ℕ → Finding → Finding
-later n (finding.Clean s) = finding.Clean s
-later n (finding.Found i w) = finding.Found (n + i) w
+-- what a look at bytes that stand n bytes further on comes to
+abbrev pub later : ℕ → Result ℕ Match → Result ℕ Match
+later n (Ok s) = Ok s
+later n (Err m) = Err (record { at = n + m.at; word = m.word })
 
-pub judged_append : (ws : List Text) (t xs ys : Text) (s : ℕ) (r : Finding) → Judged ws t xs (finding.Clean s) → Judged ws (t ++ xs) ys r → Judged ws t (xs ++ ys) (later (length xs) r)
-judged_append ws t xs ys s (finding.Clean u) a b =
+pub judged_append : (ws : List Text) (t xs ys : Text) (s : ℕ) (r : Result ℕ Match) → Judged ws t xs (Ok s) → Judged ws (t ++ xs) ys r → Judged ws t (xs ++ ys) (later (length xs) r)
+judged_append ws t xs ys s (Ok u) a b =
     (look-append ws xs ys t a.0 ∙ b.0, b.1 ∙ ap (run ws 0) (append_assoc t xs ys))
-judged_append ws t xs ys s (finding.Found i w) a b =
-    let n : length (t ++ xs) + i ≡ length t + (length xs + i) = omega (arith, length-append t xs) in (
+judged_append ws t xs ys s (Err m) a b =
+    let n : length (t ++ xs) + m.at ≡ length t + (length xs + m.at) = omega (arith, length-append t xs) in (
       rw (length-append xs ys) (omega (arith, b.0)),
       b.1,
-      look-append ws xs ys t a.0 ∙ b.2 ∙ ap (λ k. Some (record { place = k; word = get_or ws w [] })) n,
+      look-append ws xs ys t a.0 ∙ b.2 ∙ ap (λ k. Some (record { place = k; word = get_or ws m.word [] })) n,
     )
 
 -- bytes after the one that completes a word do not count
-pub judged_on : (ws : List Text) (t xs ys : Text) (i w : ℕ) → Judged ws t xs (finding.Found i w) → Judged ws t (xs ++ ys) (finding.Found i w)
-judged_on ws t xs ys i w a = (rw (length-append xs ys) (omega (arith, a.0)), a.1, look_on ws xs ys t _ a.2)
+pub judged_on : (ws : List Text) (t xs ys : Text) (m : Match) → Judged ws t xs (Err m) → Judged ws t (xs ++ ys) (Err m)
+judged_on ws t xs ys m a = (rw (length-append xs ys) (omega (arith, a.0)), a.1, look_on ws xs ys t _ a.2)

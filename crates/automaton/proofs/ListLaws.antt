@@ -6,9 +6,9 @@ use Rattle.std.proofs.lemmas.Bool.{cases_lt, cond-false, cond-true, le-ltb, lt-l
 use Rattle.std.proofs.lemmas.Bool.Decides.{nat_tests}
 use Rattle.automaton.specs.Text.{Text, member, same}
 use Rattle.automaton.specs.Lists.{ReadList, ReadsBack, ReadsOn, ReadsValid, Valid, Whole, distinct, fault_or, read_words, refusal_at, total, word, word_list, written, written_words}
-use Rattle.automaton.specs.declared.fault.ListFault.{ListFault}
-use Rattle.automaton.specs.declared.fault.ListRefusal.{ListRefusal}
-use Rattle.automaton.specs.declared.fault.ListRefusal.TheVariants.{Cut}
+use Rattle.fault.specs.declared.Fault.{Fault}
+use Rattle.automaton.specs.declared.refusal.ListRefusal.{ListRefusal}
+use Rattle.automaton.specs.declared.refusal.ListRefusal.TheVariants.{Cut}
 use Rattle.automaton.proofs.ReadLaws.{Fine, fine, length-word, same_swap, total_push, valid_none, valid_more, size_more}
 use Rattle.automaton.proofs.States.{member-append}
 
@@ -38,7 +38,7 @@ module _ (ws : List Text) (size at : ℕ) (bs more : List ℕ) where
         | inr a ↦ grind (arith, nat_tests)
       ]
 
-whole_refusal : (o : Option ListRefusal) (at : ℕ) (later : Result ReadList ListFault) → Whole (fault_or o at later) → o ≡ Some Cut → ⊥
+whole_refusal : (o : Option ListRefusal) (at : ℕ) (later : Result ReadList (Fault ListRefusal)) → Whole (fault_or o at later) → o ≡ Some Cut → ⊥
 whole_refusal None at later w e = let z : ◌≡◌ {A = ℕ} 0 1 = cc in omega arith
 whole_refusal (Some why) at later w e = let z : why ≡ Cut = cc in w z
 
@@ -48,7 +48,7 @@ words_on zero ws size at bs more w = refl
 words_on (suc n) ws size at bs more w =
     ap (λ o. fault_or o at (later (bs ++ more))) (refusal_on ws size at bs more (whole_refusal (refusal_at ws size at bs) at (later bs) w)) ∙ go (words_on n (ws ++ (word at bs ∷ [])) (size + get_or bs at 0) (at + 1 + get_or bs at 0) bs more) (refusal_at ws size at bs) refl w
   where
-    later : List ℕ → Result ReadList ListFault
+    later : List ℕ → Result ReadList (Fault ListRefusal)
     later cs = read_words n (ws ++ (word at cs ∷ [])) (size + get_or cs at 0) (at + 1 + get_or cs at 0) cs
 
     go : (Whole (later bs) → read_words n (ws ++ (word at bs ∷ [])) (size + get_or bs at 0) (at + 1 + get_or bs at 0) (bs ++ more) ≡ later bs) →
@@ -109,7 +109,7 @@ read_all zero c ws size at bs r h e =
     subst (ReadAll 0 c bs ws) p (record { valid = h.valid; stands = h.stands; many = omega arith })
 read_all (suc n) c ws size at bs r h e = go (λ f. read_all n c (ws ++ (word at bs ∷ [])) (size + get_or bs at 0) (at + 1 + get_or bs at 0) bs r (read_more c bs ws size at h f)) (refusal_at ws size at bs) refl e
   where
-    later : Result ReadList ListFault
+    later : Result ReadList (Fault ListRefusal)
     later = read_words n (ws ++ (word at bs ∷ [])) (size + get_or bs at 0) (at + 1 + get_or bs at 0) bs
 
     go : (Fine ws size at bs → later ≡ Ok r → ReadAll n c bs (ws ++ (word at bs ∷ [])) r) → (o : Option ListRefusal) → refusal_at ws size at bs ≡ o → fault_or o at later ≡ Ok r → ReadAll (suc n) c bs ws r

@@ -1,16 +1,15 @@
 -- Looking at new bytes by a table.
 -- Assumes nothing.
-use Rattle.std.proofs.Common.{◌≡◌, ℕ, zero, suc, ◌+◌, ◌*◌, ◌/◌, ◌%◌, ◌<◌, ◌≤◌, cond, List, [], ◌∷◌, ◌++◌, length, get_or, take, drop, Some, None, Option, sym, refl, ap, ◌∙◌, subst, inl, inr, append_assoc, add-zero, arith}
-use Rattle.std.proofs.lemmas.List.{drop_more, drop_all, append-nil, length_push, length-take, get_or-take, get_or_past, take-append-drop}
-use Rattle.std.proofs.lemmas.Bool.{cases_Bool, cases_lt}
+use Rattle.std.proofs.Common.{◌≡◌, ℕ, suc, ◌+◌, ◌*◌, ◌/◌, ◌%◌, ◌<◌, ◌≤◌, cond, List, [], ◌∷◌, ◌++◌, length, get_or, drop, Some, None, Ok, Err, Option, Result, sym, refl, ap, ◌∙◌, subst, inl, inr, append_assoc, add-zero, arith}
+use Rattle.std.proofs.lemmas.List.{drop_more, drop_all, append-nil, length_push}
+use Rattle.std.proofs.lemmas.Bool.{cases_Bool}
 use Rattle.automaton.specs.Look.{last_word, look, or_found}
 use Rattle.automaton.specs.Look as looks
 use Rattle.automaton.specs.Text.{Text, member}
 use Rattle.automaton.specs.States.{states, goto, place, run, last_index, tells_of}
 use Rattle.automaton.specs.Link.{Right}
-use Rattle.automaton.specs.declared.scan.Finding.{Finding}
-use Rattle.automaton.specs.declared.scan.Finding.TheVariants.{Clean, Found}
-use Rattle.automaton.specs.Scanned.{Sound, found_or, scanned, Finds}
+use Rattle.automaton.specs.declared.scan.Match.{Match}
+use Rattle.automaton.specs.Scanned.{Sound, found_or, scanned, Finds, Judged}
 use Rattle.automaton.proofs.States.{get_or-place, some-states, state_tail_in, goto-tail, run_start, tells_run, tells_longest}
 use Rattle.automaton.proofs.Links.{goto_in}
 
@@ -23,19 +22,16 @@ module _ (rows : List ℕ) (tells : List (Option ℕ)) (s i u : ℕ) (bytes : Li
   pub scanned_clean : get_or tells u None ≡ None → scanned rows tells u (i + 1) (drop (i + 1) bytes) ≡ scanned rows tells s i (drop i bytes)
   scanned_clean n = sym (step ∙ ap (λ o. found_or o i (scanned rows tells u (i + 1) (drop (i + 1) bytes))) n)
 
-  pub scanned_found : (w : ℕ) → get_or tells u None ≡ Some w → Found i w ≡ scanned rows tells s i (drop i bytes)
+  pub scanned_found : (w : ℕ) → get_or tells u None ≡ Some w → Err (record { at = i; word = w }) ≡ scanned rows tells s i (drop i bytes)
   scanned_found w n = sym (step ∙ ap (λ o. found_or o i (scanned rows tells u (i + 1) (drop (i + 1) bytes))) n)
 
-pub scanned_all : (rows : List ℕ) (tells : List (Option ℕ)) (s i : ℕ) (bytes : List ℕ) → length bytes ≤ i → Clean s ≡ scanned rows tells s i (drop i bytes)
+pub scanned_all : (rows : List ℕ) (tells : List (Option ℕ)) (s i : ℕ) (bytes : List ℕ) → length bytes ≤ i → Ok s ≡ scanned rows tells s i (drop i bytes)
 unfolding scanned
 scanned_all rows tells s i bytes l = rw (drop_all i bytes l)
 
 pub no_some : (o : Option ℕ) → ((n : ℕ) → o ≡ Some n → ⊥) → o ≡ None
 no_some None h = refl
 no_some (Some n) h = absurd (h n refl)
-
-pub same_found : (o : Option (ℕ × ℕ)) (i w j v : ℕ) → o ≡ Some (i, w) → o ≡ Some (j, v) → Found j v ≡ Found i w
-same_found o i w j v e f = let p : ◌≡◌ {A = ℕ × ℕ} (j, v) (i, w) = cc in ap (λ (q : ℕ × ℕ). Found q.0 q.1) p
 
 -- a table that is right has states alone for entries
 pub right_sound : (ws : List Text) (rows : List ℕ) (tells : List (Option ℕ)) → Right ws rows tells → Sound rows tells
@@ -64,11 +60,11 @@ last_named ws (y ∷ ys) = named_or ws (y ∷ ys) (last_word ws ys) (last_index 
 pub right-some : (ws : List Text) (rows : List ℕ) (tells : List (Option ℕ)) → Right ws rows tells → 0 < length tells
 right-some ws rows tells h = rw h.tells_len (some-states ws)
 
--- what a finding says where the first of the bytes has the number i
-abbrev JudgedAt : List Text → Text → ℕ → List ℕ → Finding → Type 0
-JudgedAt ws t i bytes (Clean s) = (look ws t bytes ≡ None) × (s ≡ run ws 0 (t ++ bytes))
-JudgedAt ws t i bytes (Found at w) =
-    (k : ℕ) × (at ≡ i + k) × (k < length bytes) × (w < length ws) × (look ws t bytes ≡ Some (record { place = length t + k; word = get_or ws w [] }))
+-- what a look says where the first of the bytes has the number i
+abbrev JudgedAt : List Text → Text → ℕ → List ℕ → Result ℕ Match → Type 0
+JudgedAt ws t i bytes (Ok s) = (look ws t bytes ≡ None) × (s ≡ run ws 0 (t ++ bytes))
+JudgedAt ws t i bytes (Err m) =
+    (k : ℕ) × (m.at ≡ i + k) × (k < length bytes) × (m.word < length ws) × (look ws t bytes ≡ Some (record { place = length t + k; word = get_or ws m.word [] }))
 
 look_more : (ws : List Text) (t : Text) (b : ℕ) (bs : List ℕ) → last_word ws (t ++ (b ∷ [])) ≡ None → look ws t (b ∷ bs) ≡ look ws (t ++ (b ∷ [])) bs
 unfolding look
@@ -78,15 +74,15 @@ look_here : (ws : List Text) (t w : Text) (b : ℕ) (bs : List ℕ) → last_wor
 unfolding look
 look_here ws t w b bs e = ap (λ o. or_found o (length t) (look ws (t ++ (b ∷ [])) bs)) e
 
-judged_later : (ws : List Text) (t : Text) (i b : ℕ) (bs : List ℕ) (r : Finding) → last_word ws (t ++ (b ∷ [])) ≡ None → JudgedAt ws (t ++ (b ∷ [])) (i + 1) bs r → JudgedAt ws t i (b ∷ bs) r
-judged_later ws t i b bs (Clean s) e j = (look_more ws t b bs e ∙ j.0, j.1 ∙ ap (run ws 0) (append_assoc t (b ∷ []) bs))
-judged_later ws t i b bs (Found at w) e j =
+judged_later : (ws : List Text) (t : Text) (i b : ℕ) (bs : List ℕ) (r : Result ℕ Match) → last_word ws (t ++ (b ∷ [])) ≡ None → JudgedAt ws (t ++ (b ∷ [])) (i + 1) bs r → JudgedAt ws t i (b ∷ bs) r
+judged_later ws t i b bs (Ok s) e j = (look_more ws t b bs e ∙ j.0, j.1 ∙ ap (run ws 0) (append_assoc t (b ∷ []) bs))
+judged_later ws t i b bs (Err m) e j =
     let p : length (t ++ (b ∷ [])) + j.0 ≡ length t + suc j.0 = omega (arith, length_push t b) in (
       suc j.0,
       omega (arith, j.1),
       omega (arith, j.2),
       j.3,
-      look_more ws t b bs e ∙ j.4 ∙ ap (λ n. Some (record { place = n; word = get_or ws w [] })) p,
+      look_more ws t b bs e ∙ j.4 ∙ ap (λ n. Some (record { place = n; word = get_or ws m.word [] })) p,
     )
 
 run_in : (ws : List Text) (t : Text) → run ws 0 t < length (states ws)
@@ -121,41 +117,18 @@ judge ws rows tells h (b ∷ bs) f t s i e = go (judge ws rows tells h bs (λ k.
       look_here ws t (get_or ws w []) b bs (last_named ws (t ++ (b ∷ [])) ∙ ap (named ws) (sym last ∙ g)) ∙ ap (λ n. Some (record { place = n; word = get_or ws w [] })) (sym (add-zero (length t))),
     )
 
-clean_not_found : (s at w : ℕ) → Clean s ≡ Found at w → ⊥
-clean_not_found s at w e = let z : ◌≡◌ {A = ℕ} 0 1 = cc in omega arith
+judged_at : (ws : List Text) (t : Text) (bytes : List ℕ) (r : Result ℕ Match) → JudgedAt ws t 0 bytes r → Judged ws t bytes r
+judged_at ws t bytes (Ok s) j = j
+judged_at ws t bytes (Err m) j =
+    let p : j.0 ≡ m.at = omega (arith, j.1) in
+    (omega (arith, j.2), j.3, j.4 ∙ ap (λ n. Some (record { place = length t + n; word = get_or ws m.word [] })) p)
 
-found_at : (i w at x : ℕ) → Found i w ≡ Found at x → i ≡ at
-found_at i w at x e = cc
-
--- a word is found at no place before the first of the bytes
-scanned-after : (rows : List ℕ) (tells : List (Option ℕ)) (bytes : List ℕ) (s i at w : ℕ) → scanned rows tells s i bytes ≡ Found at w → i ≤ at
-unfolding scanned
-scanned-after rows tells [] s i at w e = absurd (clean_not_found s at w e)
-scanned-after rows tells (b ∷ bs) s i at w e =
-    go (scanned-after rows tells bs (get_or rows (s * 256 + b) 0) (i + 1) at w) (get_or tells (get_or rows (s * 256 + b) 0) None) e
-  where
-    go : (scanned rows tells (get_or rows (s * 256 + b) 0) (i + 1) bs ≡ Found at w → i + 1 ≤ at) →
-        (o : Option ℕ) → found_or o i (scanned rows tells (get_or rows (s * 256 + b) 0) (i + 1) bs) ≡ Found at w → i ≤ at
-    go h None g = let l = h g in omega arith
-    go h (Some v) g = let l = found_at i v at w g in omega arith
+-- what is scanned is what the look finds
+pub finds_scanned : (rows : List ℕ) (tells : List (Option ℕ)) (s : ℕ) (bytes : List ℕ) → ((k : ℕ) → get_or bytes k 0 < 256) →
+    (r : Result ℕ Match) → r ≡ scanned rows tells s 0 bytes → Finds rows tells s bytes r
+finds_scanned rows tells s bytes f r e ws t h es = judged_at ws t bytes r (rw e (judge ws rows tells h bytes f t s 0 es))
 
 -- bytes after the one that completes a word do not count
-scanned-front : (rows : List ℕ) (tells : List (Option ℕ)) (bytes : List ℕ) (s i at w k : ℕ) → scanned rows tells s i bytes ≡ Found at w → at ≡ i + k →
-    scanned rows tells s i (take (suc k) bytes) ≡ Found at w
-unfolding scanned
-scanned-front rows tells [] s i at w k e ek = absurd (clean_not_found s at w e)
-scanned-front rows tells (b ∷ bs) s i at w k e ek = go k ek (scanned-front rows tells bs u (i + 1) at w) (get_or tells u None) e
-  where
-    u : ℕ
-    u = get_or rows (s * 256 + b) 0
-
-    go : (k : ℕ) → at ≡ i + k → ((m : ℕ) → scanned rows tells u (i + 1) bs ≡ Found at w → at ≡ i + 1 + m → scanned rows tells u (i + 1) (take (suc m) bs) ≡ Found at w) →
-        (o : Option ℕ) → found_or o i (scanned rows tells u (i + 1) bs) ≡ Found at w → found_or o i (scanned rows tells u (i + 1) (take k bs)) ≡ Found at w
-    go k ek h (Some v) g = g
-    go zero ek h None g = absurd (let l = scanned-after rows tells bs u (i + 1) at w g in omega arith)
-    go (suc m) ek h None g = h m g (omega arith)
-
--- nor do they for the look
 pub look_on : (ws : List Text) (xs ys t : Text) (f : looks.Found) → look ws t xs ≡ Some f → look ws t (xs ++ ys) ≡ Some f
 unfolding look
 look_on ws [] ys t f e = absurd (let z : ◌≡◌ {A = ℕ} 0 1 = cc in omega arith)
@@ -166,30 +139,6 @@ look_on ws (x ∷ xs) ys t f e = go (look_on ws xs ys (t ++ (x ∷ [])) f) (last
     go h (Some w) g = g
     go h None g = h g
 
-small : (bytes : List ℕ) (n : ℕ) → length bytes ≤ n → ((k : ℕ) → k < n → get_or bytes k 0 < 256) → (k : ℕ) → get_or bytes k 0 < 256
-small bytes n l f k = elim (cases_lt k n) [ inl a ↦ f k a | inr a ↦ rw (get_or_past bytes k 0 (omega arith)) (omega arith) ]
-
-pub finds_clean : (rows : List ℕ) (tells : List (Option ℕ)) (s : ℕ) (bytes : List ℕ) (n : ℕ) → length bytes ≤ n → ((k : ℕ) → k < n → get_or bytes k 0 < 256) →
-    (u : ℕ) → Clean u ≡ scanned rows tells s 0 bytes → Finds rows tells s bytes (Clean u)
-finds_clean rows tells s bytes n l f u e ws t h es = rw (← e) at (judge ws rows tells h bytes (small bytes n l f) t s 0 es)
-
-pub finds_found : (rows : List ℕ) (tells : List (Option ℕ)) (s : ℕ) (bytes : List ℕ) (at w : ℕ) → ((k : ℕ) → k < at + 1 → get_or bytes k 0 < 256) →
-    Found at w ≡ scanned rows tells s 0 bytes → Finds rows tells s bytes (Found at w)
-finds_found rows tells s bytes at w f e ws t h es =
-    let front : scanned rows tells s 0 (take (suc at) bytes) ≡ Found at w = scanned-front rows tells bytes s 0 at w at (sym e) (omega arith) in
-    let bound : (k : ℕ) → k < suc at → get_or (take (suc at) bytes) k 0 < 256 = λ k l. rw (get_or-take (suc at) bytes k 0 l) (f k (omega arith)) in
-    let j : JudgedAt ws t 0 (take (suc at) bytes) (Found at w) = rw front at (judge ws rows tells h (take (suc at) bytes) (small (take (suc at) bytes) (suc at) (rw (length-take (suc at) bytes) (omega arith)) bound) t s 0 es) in
-    let p : j.0 ≡ at = omega (arith, j.1) in
-    let n : length (take (suc at) bytes) ≤ length bytes = rw (length-take (suc at) bytes) (omega arith) in (
-      omega (arith, j.2),
-      j.3,
-      ap (look ws t) (sym (take-append-drop (suc at) bytes)) ∙ look_on ws (take (suc at) bytes) (drop (suc at) bytes) t _ j.4
-          ∙ ap (λ n. Some (record { place = length t + n; word = get_or ws w [] })) p,
-    )
-
 -- a state that a text leads to is one of the table's
 pub state_in : (ws : List Text) (rows : List ℕ) (tells : List (Option ℕ)) (s : ℕ) (t : Text) → Right ws rows tells → s ≡ run ws 0 t → s < length tells
 state_in ws rows tells s t h e = rw (h.tells_len, e) (run_in ws t)
-
-pub none-not-some : (o u : Option (ℕ × ℕ)) (x : ℕ × ℕ) → o ≡ None → u ≡ o → u ≡ Some x → ⊥
-none-not-some o u x e f g = let z : ◌≡◌ {A = ℕ} 0 1 = cc in omega arith

@@ -7,7 +7,8 @@ use Rattle.std.proofs.lemmas.Bool.Decides.{same_from_decides, Decides-like, nat_
 use Rattle.std.proofs.lemmas.List.{drop_more, drop_all, length-take, length-drop, length-append, get_or_append_left, get_or_push, get_or_read}
 use Rattle.std.proofs.lemmas.Bool.{cases_lt, cond-true, lt-ltb}
 use Rattle.automaton.specs.Lists.{Valid, distinct, fault_or, read_words, refusal_at, total, word, word_list}
-use Rattle.automaton.specs.declared.fault.ListFault.{ListFault}
+use Rattle.fault.specs.declared.Fault.{Fault}
+use Rattle.automaton.specs.declared.refusal.ListRefusal.{ListRefusal}
 use Rattle.automaton.specs.Text.{Text, same, member}
 use Rattle.automaton.specs.Words.{words_of}
 use Rattle.automaton.proofs.States.{member-append}
@@ -132,7 +133,7 @@ module _ (bs : List ℕ) (n i : ℕ) (ws : List Text) (size at : ℕ) (r : Readi
       let e : n - i ≡ suc (n - (i + 1)) = omega arith in
       sym (ap (λ m. read_words m ws size at bs) e) ∙ r.left
 
-  pub reading_fault : i < n → (f : ListFault) → refusal_at ws size at bs ≡ Some f.refusal → f.at ≡ at → word_list bs ≡ Err f
+  pub reading_fault : i < n → (f : Fault ListRefusal) → refusal_at ws size at bs ≡ Some f.refusal → f.at ≡ at → word_list bs ≡ Err f
   reading_fault l f e ea =
       sym (next l) ∙ ap (λ o. fault_or o at (read_words (n - (i + 1)) (ws ++ (word at bs ∷ [])) (size + get_or bs at 0) (at + 1 + get_or bs at 0) bs)) e
       ∙ ap (λ k. Err (record { refusal = f.refusal; at = k })) (sym ea)

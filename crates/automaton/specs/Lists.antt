@@ -1,9 +1,9 @@
 -- Word lists as bytes: how many words, then each word with its length before it. Assumes nothing.
 use Rattle.std.specs.Prelude.{◌≡◌, ℕ, zero, suc, ◌+◌, ◌<◌, ◌≤◌, Bool, true, cond, not, ◌&&◌, ◌||◌, List, [], ◌∷◌, ◌++◌, length, take, drop, Some, None, Ok, Err, Option, Result, ◌==◌, nat_le, nat_lt, slice_index, slice_index_or}
 use Rattle.automaton.specs.Text.{Text, member}
-use Rattle.automaton.specs.declared.fault.ListFault.{ListFault}
-use Rattle.automaton.specs.declared.fault.ListRefusal.{ListRefusal}
-use Rattle.automaton.specs.declared.fault.ListRefusal.TheVariants.{Cut, TooMuch, Twice}
+use Rattle.fault.specs.declared.Fault.{Fault}
+use Rattle.automaton.specs.declared.refusal.ListRefusal.{ListRefusal}
+use Rattle.automaton.specs.declared.refusal.ListRefusal.TheVariants.{Cut, TooMuch, Twice}
 
 -- the numbers of the refusals
 abbrev pub refusal_number : ListRefusal → ℕ
@@ -29,19 +29,19 @@ refusal_at ws size at bs =
     (cond (nat_lt (length bs) (at + 1 + slice_index bs at)) (Some Cut)
     (cond (member (word at bs) ws) (Some Twice) None))))
 
-abbrev pub fault_or : Option ListRefusal → ℕ → Result ReadList ListFault → Result ReadList ListFault
+abbrev pub fault_or : Option ListRefusal → ℕ → Result ReadList (Fault ListRefusal) → Result ReadList (Fault ListRefusal)
 fault_or (Some refusal) at later = Err (record { refusal = refusal; at = at })
 fault_or None at later = later
 
 -- n words more behind those read so far, of `size` bytes together; the length of the next stands at `at`
-unfoldable pub read_words : ℕ → List Text → ℕ → ℕ → List ℕ → Result ReadList ListFault
+unfoldable pub read_words : ℕ → List Text → ℕ → ℕ → List ℕ → Result ReadList (Fault ListRefusal)
 read_words zero ws size at bs = Ok (record { words = ws; taken = at })
 read_words (suc n) ws size at bs =
-    let later : Result ReadList ListFault = read_words n (ws ++ (word at bs ∷ [])) (size + slice_index bs at) (at + 1 + slice_index bs at) bs in
+    let later : Result ReadList (Fault ListRefusal) = read_words n (ws ++ (word at bs ∷ [])) (size + slice_index bs at) (at + 1 + slice_index bs at) bs in
     fault_or (refusal_at ws size at bs) at later
 
 -- a word list, or the refusal of the first word with a fault and where that word's length stands
-abbrev pub word_list : List ℕ → Result ReadList ListFault
+abbrev pub word_list : List ℕ → Result ReadList (Fault ListRefusal)
 word_list bs = cond (nat_lt 0 (length bs)) (read_words (slice_index bs 0) [] 0 1 bs) (Err (record { refusal = Cut; at = 0 }))
 
 -- Lists that can be read
@@ -86,7 +86,7 @@ abbrev pub ReadsValid : Type 0
 ReadsValid = (bs : List ℕ) (r : ReadList) → word_list bs ≡ Ok r → Stands bs r
 
 -- More bytes change no answer, but that the list is cut.
-abbrev pub Whole : Result ReadList ListFault → Type 0
+abbrev pub Whole : Result ReadList (Fault ListRefusal) → Type 0
 Whole (Ok r) = Unit {0}
 Whole (Err f) = f.refusal ≡ Cut → ⊥
 

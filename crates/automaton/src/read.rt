@@ -5,8 +5,8 @@ ghost use Rattle.automaton.specs.ReadList.{Reads, texts};
 ghost use Rattle.automaton.specs.Text.{member};
 ghost use Rattle.automaton.specs.Words.{words_of};
 
-use crate::fault::{ListError, ListFault, ListRefusal};
 use crate::list::WordList;
+use crate::refusal::{ListError, ListFault, ListRefusal};
 use std::alloc::Global;
 
 const MOST_WORDS: usize = 128;

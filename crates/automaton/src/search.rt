@@ -8,7 +8,7 @@ ghost use Rattle.automaton.specs.Text.{Text};
 
 use crate::build::Builder;
 use crate::list::WordList;
-use crate::scan::{Finding, scan};
+use crate::scan::{Match, scan};
 use crate::table::Table;
 use std::alloc::{AllocError, Global};
 
@@ -24,9 +24,9 @@ impl Table {
         Ok(Table { rows, tells })
     }
 
-    // Looks at some bytes after a text that led to a state, one after the other, up to the first that completes a word.
+    // Looks at some bytes after a text that led to a state, one after the other, up to the first that completes a word; the state after them where none does.
     // A number that is no state counts as the start.
-    pub fn look(&self, state: u16, bytes: &[u8]) -> Finding
+    pub fn look(&self, state: u16, bytes: &[u8]) -> Result<u16, Match>
         ensures among { Among (length bytes.now) result }
         ensures finds { (ws : List Text) (t : Text) → TableOf ws self.now → state ≡ run ws 0 t → Judged ws t bytes.now result }
     {

@@ -1,91 +1,91 @@
 // Word lists are written as `\x02\x03abc\x02bd`: how many words, then each with its length before it.
-use automaton::{Finding, ListError, ListFault, ListRefusal, Table, WordList};
+use automaton::{ListError, ListFault, ListRefusal, Match, Table, WordList};
 use std::alloc::{AllocError, Global};
 use std::test::Fail;
 
 struct LookCase {
     list: &'static [u8],
     text: &'static [u8],
-    finding: Finding,
+    finding: Result<u16, Match>,
 }
 
 const LOOK_CASES: [LookCase; 14] = [
     LookCase {
         list: b"\x02\x03abc\x02bd",
         text: b"ab",
-        finding: Finding::Clean(2),
+        finding: Ok(2),
     },
     LookCase {
         list: b"\x02\x03abc\x02bd",
         text: b"xabcd",
-        finding: Finding::Found(3, 0),
+        finding: Err(Match { at: 3, word: 0 }),
     },
     // one word goes on within another
     LookCase {
         list: b"\x02\x03abc\x02bd",
         text: b"abd",
-        finding: Finding::Found(2, 1),
+        finding: Err(Match { at: 2, word: 1 }),
     },
     LookCase {
         list: b"\x02\x03abc\x02bd",
         text: b"",
-        finding: Finding::Clean(0),
+        finding: Ok(0),
     },
     LookCase {
         list: b"\x01\x03aab",
         text: b"aaab",
-        finding: Finding::Found(3, 0),
+        finding: Err(Match { at: 3, word: 0 }),
     },
     // a word inside another
     LookCase {
         list: b"\x02\x04abcd\x02bc",
         text: b"abcd",
-        finding: Finding::Found(2, 1),
+        finding: Err(Match { at: 2, word: 1 }),
     },
     LookCase {
         list: b"\x02\x04abcd\x01c",
         text: b"abx",
-        finding: Finding::Clean(0),
+        finding: Ok(0),
     },
     // words that share beginnings
     LookCase {
         list: b"\x03\x03abc\x03abd\x02xa",
         text: b"ababd",
-        finding: Finding::Found(4, 1),
+        finding: Err(Match { at: 4, word: 1 }),
     },
     LookCase {
         list: b"\x02\x04abcd\x02ab",
         text: b"xxab",
-        finding: Finding::Found(3, 1),
+        finding: Err(Match { at: 3, word: 1 }),
     },
     // the longest of those that end at one place, wherever it stands in the list
     LookCase {
         list: b"\x03\x01c\x03abc\x02bc",
         text: b"abc",
-        finding: Finding::Found(2, 1),
+        finding: Err(Match { at: 2, word: 1 }),
     },
     // words of one byte
     LookCase {
         list: b"\x02\x01\x00\x01\xff",
         text: b"ab\xff\x00",
-        finding: Finding::Found(2, 1),
+        finding: Err(Match { at: 2, word: 1 }),
     },
     LookCase {
         list: b"\x01\x01a",
         text: b"bcd",
-        finding: Finding::Clean(0),
+        finding: Ok(0),
     },
     // no words
     LookCase {
         list: b"\x00",
         text: b"abc",
-        finding: Finding::Clean(0),
+        finding: Ok(0),
     },
     // what comes after the list does not count
     LookCase {
         list: b"\x01\x01a\x01b",
         text: b"b",
-        finding: Finding::Clean(0),
+        finding: Ok(0),
     },
 ];
 
@@ -189,8 +189,8 @@ fn two_words(rt: HostRuntime) -> Result<(), Fail> {
     assert_eq!(rt; table.word(5), Some(1));
     assert_eq!(rt; table.word(6), None);
     // a look goes on where another ended; a number that is no state counts as the start
-    assert_eq!(rt; table.look(2, b"d"), Finding::Found(0, 1));
-    assert_eq!(rt; table.look(6, b"d"), Finding::Clean(0));
+    assert_eq!(rt; table.look(2, b"d"), Err(Match { at: 0, word: 1 }));
+    assert_eq!(rt; table.look(6, b"d"), Ok(0));
     Ok(())
 }
 
@@ -245,9 +245,9 @@ fn every_byte(rt: HostRuntime) -> Result<(), Fail> {
     let table = Table::build(heap, &list)?;
     for b in 0..=255u8 {
         let finding = if b < 128 {
-            Finding::Found(0, b)
+            Err(Match { at: 0, word: b })
         } else {
-            Finding::Clean(0)
+            Ok(0)
         };
         assert_eq!(rt; table.look(0, &[b]), finding);
     }

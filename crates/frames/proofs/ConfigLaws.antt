@@ -3,20 +3,21 @@ use Rattle.std.proofs.Common.{◌≡◌, ℕ, ◌+◌, ◌-◌, ◌^◌, ◌<◌
 use Rattle.std.proofs.lemmas.List.{length-drop, take_rest}
 use Rattle.automaton.specs.Lists.{ReadList, word_list}
 use Rattle.automaton.specs.ReadList.{Reads}
-use Rattle.automaton.specs.declared.fault.ListError.{ListError}
-use Rattle.automaton.specs.declared.fault.ListError.TheVariants.{Memory, Fault}
-use Rattle.automaton.specs.declared.fault.ListFault.{ListFault}
+use Rattle.automaton.specs.declared.refusal.ListRefusal.{ListRefusal}
+use Rattle.fault.specs.declared.Fault.{Fault}
+use Rattle.fault.specs.declared.ReadError.{ReadError}
+use Rattle.fault.specs.declared.ReadError.TheVariants as error
 use Rattle.packet.specs.Bytes.{Bytes}
 use Rattle.frames.specs.Items.{header}
 use Rattle.frames.specs.Configs.{OnFault, ReadsConfig, configuration, error_of, with_header, with_list}
-use Rattle.frames.specs.declared.fault.Refusal.{Refusal}
+use Rattle.frames.specs.declared.refusal.Refusal.{Refusal}
 use Rattle.frames.proofs.ListBounds.{Within, list_within}
 
 -- the part of the bytes that the list is read from
 abbrev pub rest : Bytes → Bytes
 rest bs = take (length bs - 6) (drop 6 bs)
 
-pub config_is : (bs : Bytes) (h : ℕ × ℕ) (l : Result ReadList ListFault) → Ok h ≡ header bs → word_list (rest bs) ≡ l → configuration bs ≡ with_list h l
+pub config_is : (bs : Bytes) (h : ℕ × ℕ) (l : Result ReadList (Fault ListRefusal)) → Ok h ≡ header bs → word_list (rest bs) ≡ l → configuration bs ≡ with_list h l
 config_is bs h l e f = ap (λ (x : Result (ℕ × ℕ) Refusal). with_header x (word_list (drop 6 bs))) (sym e) ∙ ap (λ (t : Bytes). with_list h (word_list t)) (sym (take_rest bs 6)) ∙ ap (with_list h) f
 
 pub taken_within : (bs : Bytes) (r : ReadList) → 6 ≤ length bs → word_list (rest bs) ≡ Ok r → 6 + r.taken ≤ length bs
@@ -25,13 +26,13 @@ taken_within bs r l e =
     let k : length (rest bs) ≡ length bs - 6 = ap length (take_rest bs 6) ∙ length-drop 6 bs in
     omega arith
 
-pub fault_within : (bs : Bytes) (e : ListError) → 6 ≤ length bs → length bs < 2 ^ 64 → Reads (rest bs) (Err e) → OnFault e (λ f. f.at + 6 < 2 ^ 64)
-fault_within bs Memory l m h = tt
-fault_within bs (Fault f) l m h =
+pub fault_within : (bs : Bytes) (e : ReadError ListRefusal) → 6 ≤ length bs → length bs < 2 ^ 64 → Reads (rest bs) (Err e) → OnFault e (λ f. f.at + 6 < 2 ^ 64)
+fault_within bs error.Memory l m h = tt
+fault_within bs (error.Fault f) l m h =
     let w : f.at ≤ length (rest bs) = subst (Within (length (rest bs))) h (list_within (rest bs)) in
     let k : length (rest bs) ≡ length bs - 6 = ap length (take_rest bs 6) ∙ length-drop 6 bs in
     omega arith
 
-pub reads_fault : (bs : Bytes) (h : ℕ × ℕ) (e : ListError) → Ok h ≡ header bs → Reads (rest bs) (Err e) → ReadsConfig bs (Err (error_of e))
-reads_fault bs h Memory p r = tt
-reads_fault bs h (Fault f) p r = config_is bs h (Err f) p r
+pub reads_fault : (bs : Bytes) (h : ℕ × ℕ) (e : ReadError ListRefusal) → Ok h ≡ header bs → Reads (rest bs) (Err e) → ReadsConfig bs (Err (error_of e))
+reads_fault bs h error.Memory p r = tt
+reads_fault bs h (error.Fault f) p r = config_is bs h (Err f) p r

@@ -6,7 +6,7 @@ use Rattle.std.proofs.lemmas.Bool.Decides.{nat_tests}
 use Rattle.packet.specs.Bytes.{Bytes, byte, read16, read32}
 use Rattle.filter.specs.Verdict.{Comes, Ticks}
 use Rattle.frames.specs.Items.{ReadEvent, item, packet_item, side_of, ticks_item}
-use Rattle.frames.specs.declared.fault.Refusal.TheVariants.{Cut, Bad}
+use Rattle.frames.specs.declared.refusal.Refusal.TheVariants.{Cut, Bad}
 
 abbrev pub packet_of : Bytes → ReadEvent
 packet_of bs = record { event = Comes (side_of (byte 1 bs)) (take (read16 2 bs) (drop 4 bs)); taken = 4 + read16 2 bs }

@@ -12,8 +12,8 @@ use Rattle.frames.specs.Items.{ReadEvent, ReadsItem, header, item, packet_item, 
 use Rattle.frames.specs.Kinds.{KindOf}
 use Rattle.frames.specs.declared.read.Kind.{Kind}
 use Rattle.frames.specs.declared.read.Kind.TheVariants.{Config, Packet, Ticks}
-use Rattle.frames.specs.declared.fault.Refusal.{Refusal}
-use Rattle.frames.specs.declared.fault.Refusal.TheVariants.{Bad}
+use Rattle.frames.specs.declared.refusal.Refusal.{Refusal}
+use Rattle.frames.specs.declared.refusal.Refusal.TheVariants.{Bad}
 use Rattle.frames.specs.declared.item.Item.{Item}
 
 pub side_is : (n : ℕ) (s : Side) → SideOf n (Ok s) → (n ≤ 1) × (s ≡ side_of n)

@@ -5,9 +5,9 @@ use Rattle.std.proofs.lemmas.Bool.{cases_lt}
 use Rattle.std.proofs.lemmas.Bool.Decides.{nat_tests}
 use Rattle.automaton.specs.Lists.{ReadList, Valid, Whole, word_list, written}
 use Rattle.automaton.specs.Text.{Text}
-use Rattle.automaton.specs.declared.fault.ListFault.{ListFault}
-use Rattle.automaton.specs.declared.fault.ListRefusal.{ListRefusal}
-use Rattle.automaton.specs.declared.fault.ListRefusal.TheVariants as list
+use Rattle.fault.specs.declared.Fault.{Fault}
+use Rattle.automaton.specs.declared.refusal.ListRefusal.{ListRefusal}
+use Rattle.automaton.specs.declared.refusal.ListRefusal.TheVariants as list
 use Rattle.automaton.proofs.ListLaws as lists
 use Rattle.packet.specs.Bytes.{Bytes, byte, read16, read32}
 use Rattle.filter.specs.declared.side.Side.{Side}
@@ -16,9 +16,8 @@ use Rattle.filter.specs.Verdict.{Event, Comes, Ticks}
 use Rattle.frames.specs.Items.{ReadEvent, header, item, side_of}
 use Rattle.frames.specs.Configs.{ReadSettings, configuration, fault_of, refusal_of, with_header, with_list}
 use Rattle.frames.specs.Whole.{ConfigReadsOn, CutIsShort, Fits, ItemReadsOn, SettledConfig, SettledItem, side_byte, written_config, written_event}
-use Rattle.frames.specs.declared.fault.Fault.{Fault}
-use Rattle.frames.specs.declared.fault.Refusal.{Refusal}
-use Rattle.frames.specs.declared.fault.Refusal.TheVariants.{Cut, Bad}
+use Rattle.frames.specs.declared.refusal.Refusal.{Refusal}
+use Rattle.frames.specs.declared.refusal.Refusal.TheVariants.{Cut, Bad}
 use Rattle.frames.proofs.ListBounds.{Within, list_cut_short, list_within}
 use Rattle.frames.proofs.Fates.{open_still, lost, done, byte_on, fate, item-packet, item_ticks, read32_on}
 
@@ -106,7 +105,7 @@ header_fate bs =
     ]
 
 -- a list of which the configuration is not cut is not cut
-whole_list : (h : ℕ × ℕ) (l : Result ReadList ListFault) → SettledConfig (with_list h l) → Whole l
+whole_list : (h : ℕ × ℕ) (l : Result ReadList (Fault ListRefusal)) → SettledConfig (with_list h l) → Whole l
 whole_list h (Ok r) s = tt
 whole_list h (Err f) s = not-cut f.refusal s
   where
@@ -137,11 +136,11 @@ config_within bs r e =
   where
     refused : (why : Refusal) → header bs ≡ Err why → ⊥
     refused why f =
-        let p : ◌≡◌ {A = Result ReadSettings Fault} (Err (record { refusal = why; at = 0 })) (Ok r) = ap (λ (x : Result (ℕ × ℕ) Refusal). with_header x (word_list (drop 6 bs))) (sym f) ∙ e in
+        let p : ◌≡◌ {A = Result ReadSettings (Fault Refusal)} (Err (record { refusal = why; at = 0 })) (Ok r) = ap (λ (x : Result (ℕ × ℕ) Refusal). with_header x (word_list (drop 6 bs))) (sym f) ∙ e in
         let z : ◌≡◌ {A = ℕ} 0 1 = cc in
         omega arith
 
-    go : (h : ℕ × ℕ) → 6 ≤ length bs → (x : Result ReadList ListFault) → word_list (drop 6 bs) ≡ x → with_list h x ≡ Ok r → r.taken ≤ length bs
+    go : (h : ℕ × ℕ) → 6 ≤ length bs → (x : Result ReadList (Fault ListRefusal)) → word_list (drop 6 bs) ≡ x → with_list h x ≡ Ok r → r.taken ≤ length bs
     go h l (Err f) p q = absurd (let z : ◌≡◌ {A = ℕ} 0 1 = cc in omega arith)
     go h l (Ok s) p q =
         let w : s.taken ≤ length (drop 6 bs) = subst (Within (length (drop 6 bs))) p (list_within (drop 6 bs)) in
@@ -160,11 +159,11 @@ item_short bs b c =
       | done r e on some within ↦ absurd (let p : ◌≡◌ {A = Result ReadEvent Refusal} (Ok r) (Err Cut) = sym e ∙ c in let z : ◌≡◌ {A = ℕ} 0 1 = cc in omega arith)
     ]
 
-same_refusal : (f g : Fault) → ◌≡◌ {A = Result ReadSettings Fault} (Err f) (Err g) → f.refusal ≡ g.refusal
-same_refusal f g e = let p : f ≡ g = cc in ap (λ (x : Fault). x.refusal) p
+same_refusal : (f g : Fault Refusal) → ◌≡◌ {A = Result ReadSettings (Fault Refusal)} (Err f) (Err g) → f.refusal ≡ g.refusal
+same_refusal f g e = let p : f ≡ g = cc in ap (λ (x : Fault Refusal). x.refusal) p
 
 -- a configuration that is cut, by what its list is
-list_short : (h : ℕ × ℕ) (bs : Bytes) (at : ℕ) (x : Result ReadList ListFault) → word_list bs ≡ x → with_list h x ≡ Err (record { refusal = Cut; at = at }) → length bs ≤ 4225
+list_short : (h : ℕ × ℕ) (bs : Bytes) (at : ℕ) (x : Result ReadList (Fault ListRefusal)) → word_list bs ≡ x → with_list h x ≡ Err (record { refusal = Cut; at = at }) → length bs ≤ 4225
 list_short h bs at (Ok r) p q = absurd (let z : ◌≡◌ {A = ℕ} 0 1 = cc in omega arith)
 list_short h bs at (Err f) p q = list_cut_short bs f (cut_is f.refusal (same_refusal (fault_of f) (record { refusal = Cut; at = at }) q)) p
   where

@@ -6,8 +6,8 @@ use Rattle.filter.specs.Verdict.{Event}
 use Rattle.frames.specs.Items.{ReadEvent, item}
 use Rattle.frames.specs.Configs.{configuration}
 use Rattle.frames.specs.Whole.{arrives, breaks, comes, ends, fails, lacks, opens, reads, stops, AllFit, BlocksRead, Events, Opens, Reading, ReadsBack, SettledConfig, SettledItem, Takes, and_then, faulty, onwards, read_all, read_events, taken_of, with_events, written_config, written_event, written_events}
-use Rattle.frames.specs.declared.fault.Refusal.{Refusal}
-use Rattle.frames.specs.declared.fault.Refusal.TheVariants.{Cut}
+use Rattle.frames.specs.declared.refusal.Refusal.{Refusal}
+use Rattle.frames.specs.declared.refusal.Refusal.TheVariants.{Cut}
 use Rattle.frames.proofs.Fates.{open_still, lost, done, fate, item-none}
 use Rattle.frames.proofs.OnLaws.{config_back, config_reads_on, config_within, item_back, item_reads_on}
 

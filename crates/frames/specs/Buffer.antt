@@ -4,9 +4,10 @@ use Rattle.packet.specs.Bytes.{Bytes}
 use Rattle.frames.specs.Items.{Placed, event_of, item}
 use Rattle.frames.specs.Configs.{configuration, settings_of}
 use Rattle.frames.specs.declared.config.Config.{Config}
-use Rattle.frames.specs.declared.fault.ConfigError.{ConfigError}
-use Rattle.frames.specs.declared.fault.ConfigError.TheVariants.{Memory, Refused}
-use Rattle.frames.specs.declared.fault.Fault.{Fault}
+use Rattle.fault.specs.declared.ReadError.{ReadError}
+use Rattle.fault.specs.declared.ReadError.TheVariants as error
+use Rattle.fault.specs.declared.Fault.{Fault}
+use Rattle.frames.specs.declared.refusal.Refusal.{Refusal}
 use Rattle.frames.specs.declared.input.Input.{Input}
 use Rattle.frames.specs.declared.item.Item.{Item}
 use Rattle.frames.specs.declared.item.Item.TheVariants.{Packet, Ticks}
@@ -50,10 +51,10 @@ pub record Read (i j : Input) (n : ℕ) : Type 0 where
   pub buffer : vec_items j.buffer ≡ vec_items i.buffer
 
 -- the configuration was read
-abbrev pub TookConfig : Input → Input → Result Config ConfigError → Type 0
+abbrev pub TookConfig : Input → Input → Result Config (ReadError Refusal) → Type 0
 TookConfig i j (Ok c) = ((n : ℕ) × (configuration (pending i) ≡ Ok (record { settings = settings_of c; taken = n })) × Read i j n)
-TookConfig i j (Err Memory) = j ≡ i
-TookConfig i j (Err (Refused f)) = ((at : ℕ) × (configuration (pending i) ≡ Err (record { refusal = f.refusal; at = at })) × (f.at ≡ (i.offset + at) % 2 ^ 64) × (j ≡ i))
+TookConfig i j (Err error.Memory) = j ≡ i
+TookConfig i j (Err (error.Fault f)) = ((at : ℕ) × (configuration (pending i) ≡ Err (record { refusal = f.refusal; at = at })) × (f.at ≡ (i.offset + at) % 2 ^ 64) × (j ≡ i))
 
 abbrev pub Inside : Bytes → Item → Type 0
 Inside bs (Packet side start end) = (start ≤ end) × (end ≤ length bs)
@@ -67,6 +68,6 @@ pub record Took (i j : Input) (it : Item) (n : ℕ) : Type 0 where
   pub read : Read i j n
   pub fewer : j.end - j.start < i.end - i.start
 
-abbrev pub TookItem : Input → Input → Result Item Fault → Type 0
+abbrev pub TookItem : Input → Input → Result Item (Fault Refusal) → Type 0
 TookItem i j (Ok it) = ((n : ℕ) × Took i j it n)
 TookItem i j (Err f) = (item (pending i) ≡ Err f.refusal) × (f.at ≡ i.offset) × (j ≡ i)

@@ -5,8 +5,8 @@ use Rattle.filter.specs.declared.side.Side.TheVariants.{Outside, Looms}
 use Rattle.filter.specs.Verdict.{Event, Comes}
 use Rattle.filter.specs.Verdict as event
 use Rattle.filter.specs.declared.side.Side.{Side}
-use Rattle.frames.specs.declared.fault.Refusal.{Refusal}
-use Rattle.frames.specs.declared.fault.Refusal.TheVariants.{Cut, Bad, TooMuch, Twice}
+use Rattle.frames.specs.declared.refusal.Refusal.{Refusal}
+use Rattle.frames.specs.declared.refusal.Refusal.TheVariants.{Cut, Bad, TooMuch, Twice}
 use Rattle.frames.specs.declared.item.Item.{Item}
 use Rattle.frames.specs.declared.item.Item.TheVariants.{Packet, Ticks}
 

@@ -1,7 +1,7 @@
 -- The kinds of what stands in the input, by their numbers. Assumes nothing.
 use Rattle.std.specs.Prelude.{◌≡◌, ◌≢◌, ℕ, Ok, Err, Result}
-use Rattle.frames.specs.declared.fault.Refusal.{Refusal}
-use Rattle.frames.specs.declared.fault.Refusal.TheVariants.{Bad}
+use Rattle.frames.specs.declared.refusal.Refusal.{Refusal}
+use Rattle.frames.specs.declared.refusal.Refusal.TheVariants.{Bad}
 use Rattle.frames.specs.declared.read.Kind.{Kind}
 use Rattle.frames.specs.declared.read.Kind.TheVariants.{Config, Packet, Ticks}
 

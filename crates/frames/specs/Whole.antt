@@ -9,9 +9,9 @@ use Rattle.filter.specs.declared.side.Side.TheVariants.{Outside, Looms}
 use Rattle.filter.specs.Verdict.{Event, Comes, Ticks}
 use Rattle.frames.specs.Items.{ReadEvent, item, refusal_number}
 use Rattle.frames.specs.Configs.{ReadSettings, configuration}
-use Rattle.frames.specs.declared.fault.Fault.{Fault}
-use Rattle.frames.specs.declared.fault.Refusal.{Refusal}
-use Rattle.frames.specs.declared.fault.Refusal.TheVariants.{Cut}
+use Rattle.fault.specs.declared.Fault.{Fault}
+use Rattle.frames.specs.declared.refusal.Refusal.{Refusal}
+use Rattle.frames.specs.declared.refusal.Refusal.TheVariants.{Cut}
 
 -- by which number, and at which byte of the input, the reading ended
 pub record Ended : Type 0 where
@@ -54,7 +54,7 @@ pub record Reading : Type 0 where
   pub settings : Option Settings
   pub events : Events
 
-abbrev pub with_events : Bytes → Result ReadSettings Fault → Reading
+abbrev pub with_events : Bytes → Result ReadSettings (Fault Refusal) → Reading
 with_events bs (Ok r) = record { settings = Some r.settings; events = read_events (length bs) r.taken (drop r.taken bs) }
 with_events bs (Err f) = record { settings = None; events = faulty f.refusal f.at }
 
@@ -104,7 +104,7 @@ SettledItem (Err why) = why ≡ Cut → ⊥
 abbrev pub ItemReadsOn : Type 0
 ItemReadsOn = (bs more : Bytes) → SettledItem (item bs) → item (bs ++ more) ≡ item bs
 
-abbrev pub SettledConfig : Result ReadSettings Fault → Type 0
+abbrev pub SettledConfig : Result ReadSettings (Fault Refusal) → Type 0
 SettledConfig (Ok r) = Unit {0}
 SettledConfig (Err f) = f.refusal ≡ Cut → ⊥
 
@@ -139,8 +139,8 @@ pub data Takes : ℕ → Bytes → Bytes → Events → Type 0 where
 pub data Opens : Bytes → Bytes → Reading → Type 0 where
   arrives : {left rest : Bytes} {out : Reading} (block : Bytes) → Opens (left ++ block) rest out → Opens left (block ++ rest) out
   opens : {left rest : Bytes} {out : Events} (r : ReadSettings) → configuration left ≡ Ok r → Takes r.taken (drop r.taken left) rest out → Opens left rest (record { settings = Some r.settings; events = out })
-  fails : {left rest : Bytes} (f : Fault) → configuration left ≡ Err f → (f.refusal ≢ Cut) → Opens left rest (record { settings = None; events = faulty f.refusal f.at })
-  lacks : {left : Bytes} (f : Fault) → configuration left ≡ Err f → Opens left [] (record { settings = None; events = faulty f.refusal f.at })
+  fails : {left rest : Bytes} (f : Fault Refusal) → configuration left ≡ Err f → (f.refusal ≢ Cut) → Opens left rest (record { settings = None; events = faulty f.refusal f.at })
+  lacks : {left : Bytes} (f : Fault Refusal) → configuration left ≡ Err f → Opens left [] (record { settings = None; events = faulty f.refusal f.at })
 
 -- However the input comes in blocks, and however much of it is read before the next block comes: what is read is what stands in the whole.
 abbrev pub BlocksRead : Type 0

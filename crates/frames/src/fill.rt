@@ -3,9 +3,9 @@ ghost use Rattle.std.specs.Prelude.{◌≡◌, ℕ, ◌+◌, ◌<◌, ◌≤◌,
 ghost use Rattle.frames.specs.Buffer.{Filled, Placing, SameInput, TookConfig, TookItem, pending, placed};
 
 use crate::config::Config;
-use crate::fault::{ConfigError, Fault};
 use crate::input::Input;
 use crate::item::Item;
+use crate::refusal::{ConfigError, Fault};
 use std::alloc::{AllocError, Global};
 use std::io;
 use std::io::Read;
@@ -102,7 +102,7 @@ impl Input {
                 self.offset = self.offset.wrapping_add(taken);
                 Ok(config)
             }
-            Err(ConfigError::Refused(fault)) => Err(ConfigError::Refused(Fault {
+            Err(ConfigError::Fault(fault)) => Err(ConfigError::Fault(Fault {
                 refusal: fault.refusal,
                 at: self.offset.wrapping_add(fault.at),
             })),

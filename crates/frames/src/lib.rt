@@ -2,17 +2,17 @@
 #![tactic(auto)]
 
 mod config;
-mod fault;
 mod fill;
 mod input;
 mod item;
 pub mod laws;
 mod read;
+mod refusal;
 
 pub use config::Config;
-pub use fault::{ConfigError, Fault, Refusal};
 pub use input::Input;
 pub use item::Item;
+pub use refusal::{ConfigError, Fault, Refusal};
 
 #[cfg(test)]
 mod tests;

@@ -1,13 +1,13 @@
 // Reading the configuration and the items from the front of some bytes.
 ghost use Rattle.frames.specs.Kinds.{KindOf};
-ghost use Rattle.frames.specs.Items.{ReadsItem, header, item, packet_item, refusal_number, ticks_item};
+ghost use Rattle.frames.specs.Items.{ReadsItem, header, item, packet_item, ticks_item};
 ghost use Rattle.frames.specs.Configs.{OnFault, ReadsConfig, error_of};
 ghost use Rattle.std.specs.Prelude.{◌≡◌, ◌+◌, ◌^◌, ◌<◌, ◌≤◌, length, IfOk};
 
 use crate::config::Config;
-use crate::fault::{ConfigError, Fault, Refusal};
 use crate::item::Item;
-use automaton::{ListError, ListRefusal, WordList};
+use crate::refusal::{ConfigError, Fault, Refusal};
+use automaton::{ListError, WordList};
 use filter::Side;
 use std::alloc::Global;
 
@@ -32,20 +32,6 @@ impl TryFrom<u8> for Kind {
             2 => Ok(Kind::Ticks),
             3 => Ok(Kind::Config),
             _ => Err(Refusal::Bad),
-        }
-    }
-}
-
-impl Refusal {
-    // The number under which a refusal is reported.
-    pub fn number(self) -> u8
-        ensures { result ≡ refusal_number self }
-    {
-        match self {
-            Refusal::Cut => 1,
-            Refusal::Bad => 1,
-            Refusal::TooMuch => 11,
-            Refusal::Twice => 12,
         }
     }
 }
@@ -129,19 +115,13 @@ fn list_error(error: ListError) -> ConfigError
     requires { OnFault error (λ f. f.at + 6 < 2 ^ 64) }
     ensures { result ≡ error_of error }
 {
-    let fault = match error {
-        ListError::Memory => return ConfigError::Memory,
-        ListError::Fault(fault) => fault,
-    };
-    let refusal = match fault.refusal {
-        ListRefusal::Cut => Refusal::Cut,
-        ListRefusal::TooMuch => Refusal::TooMuch,
-        ListRefusal::Twice => Refusal::Twice,
-    };
-    ConfigError::Refused(Fault {
-        refusal,
-        at: HEADER + fault.at,
-    })
+    match error {
+        ListError::Memory => ConfigError::Memory,
+        ListError::Fault(fault) => ConfigError::Fault(Fault {
+            refusal: Refusal::from(fault.refusal),
+            at: HEADER + fault.at,
+        }),
+    }
 }
 
 impl Config {
@@ -151,7 +131,7 @@ impl Config {
     {
         let (power, quiet) = match read_header(bytes) {
             Ok(header) => header,
-            Err(refusal) => return Err(ConfigError::Refused(Fault { refusal, at: 0 })),
+            Err(refusal) => return Err(ConfigError::Fault(Fault { refusal, at: 0 })),
         };
         match WordList::read(heap, &bytes[HEADER..]) {
             Ok((words, taken)) => Ok((

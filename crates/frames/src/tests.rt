@@ -106,7 +106,7 @@ fn byte_by_byte(rt: HostRuntime) -> Result<(), Fail> {
     }
     assert_eq!(rt;
         input.config(rt.alloc()).err(),
-        Some(ConfigError::Refused(Fault {
+        Some(ConfigError::Fault(Fault {
             refusal: Refusal::Cut,
             at: 7,
         }))

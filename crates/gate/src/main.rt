@@ -61,7 +61,7 @@ fn read_config<R: Read>(
         let fault = match input.config(rt.alloc()) {
             Ok(config) => return Ok(config),
             Err(ConfigError::Memory) => return Err(Stop::from(AllocError)),
-            Err(ConfigError::Refused(fault)) => fault,
+            Err(ConfigError::Fault(fault)) => fault,
         };
         if fault.refusal != Refusal::Cut || input.fill(source)? == 0 {
             return Err(Stop::Fault(fault));
@@ -124,11 +124,7 @@ fn main(rt: HostRuntime) -> io::Result<ExitCode> {
     match run(&rt) {
         Ok(()) => return Ok(ExitCode::SUCCESS),
         Err(Stop::Usage) => eprint!(rt; "{USAGE}")?,
-        Err(Stop::Fault(fault)) => {
-            let number = fault.refusal.number();
-            let at = fault.at;
-            eprintln!(rt; "gate: fault {number} at byte {at}")?
-        }
+        Err(Stop::Fault(fault)) => eprintln!(rt; "gate: {fault}")?,
         Err(Stop::Failed(e)) => eprintln!(rt; "gate: {e}")?,
     }
     Ok(ExitCode::FAILURE)

@@ -1,21 +1,17 @@
 -- Looking at the new bytes of a text, part after part.
 -- Assumes nothing.
-use Rattle.std.proofs.Common.{◌≡◌, ℕ, zero, suc, ◌+◌, ◌-◌, ◌<◌, ◌≤◌, ◌⊎◌, List, [], ◌∷◌, ◌++◌, length, get_or, take, drop, Some, None, Ok, Err, Option, sym, refl, ap, ◌∙◌, subst, ⊎_elim, arith, take-add}
-use Rattle.std.proofs.lemmas.List.{append-nil, length-take, length-drop, length-append, take-append-drop}
+use Rattle.std.proofs.Common.{◌≡◌, ℕ, zero, suc, ◌+◌, ◌-◌, ◌<◌, ◌≤◌, ◌⊎◌, List, [], ◌∷◌, ◌++◌, length, drop, Some, None, Ok, Err, Option, Result, sym, refl, ap, ◌∙◌, subst, ⊎_elim, append_assoc, arith}
+use Rattle.std.proofs.lemmas.List.{append-nil, length-append, take-append-drop}
 use Rattle.automaton.specs.Look.{look}
-use Rattle.automaton.specs.Scanned.{Judged}
 use Rattle.automaton.specs.States.{run}
 use Rattle.automaton.specs.Text.{Text}
-use Rattle.automaton.specs.declared.scan.Finding.TheVariants.{Clean, Found}
-use Rattle.automaton.proofs.JudgedLaws.{judged_append, judged_on}
+use Rattle.stream.specs.declared.taken.WordAt.{WordAt}
+use Rattle.automaton.proofs.JudgedLaws.{look-append}
+use Rattle.automaton.proofs.Looks.{look_on}
 use Rattle.window.specs.Known.{Known, learn, on_byte, onwards, overlay, piece}
 use Rattle.window.specs.Ring.{Front}
-use Rattle.window.proofs.KnownLaws.{inside-above, inside_below, learn_outside, length-overlay, onwards_enough, onwards-learn, onwards-none}
-use Rattle.stream.specs.Looked.{LookOf}
-
-pub judged_none : (ws : List Text) (t : Text) (s : ℕ) → s ≡ run ws 0 t → Judged ws t [] (Clean s)
-unfolding look
-judged_none ws t s e = (refl, e ∙ ap (run ws 0) (sym (append-nil t)))
+use Rattle.window.proofs.KnownLaws.{inside-above, inside_below, learn_outside, onwards_enough, onwards-learn, onwards-none}
+use Rattle.stream.specs.Looked.{LookAt, LookOf}
 
 pub overlay-drop : (f : Known) (i n : ℕ) (bs : List ℕ) → n ≤ length bs → overlay f (i + n) (drop n bs) ≡ drop n (overlay f i bs)
 unfolding overlay
@@ -23,29 +19,30 @@ overlay-drop f i zero bs l = let e : i + 0 ≡ i = omega arith in ap (λ j. over
 overlay-drop f i (suc n) [] l = absurd (omega arith)
 overlay-drop f i (suc n) (b ∷ bs) l = let e : i + suc n ≡ i + 1 + n = omega arith in ap (λ j. overlay f j (drop n bs)) e ∙ overlay-drop f (i + 1) n bs (omega arith)
 
--- a front of the rest of a part, of which d bytes were looked at
-module _ (f : Known) (i d : ℕ) (bs rest front : List ℕ) (l : d ≤ length bs) (e : rest ≡ drop d bs) (fr : Front f (i + d) rest front) where
-  abbrev seen : List ℕ
-  seen = take d (overlay f i bs)
+-- what is overlaid is a front of it, and what is overlaid behind that
+pub overlay-front : (f : Known) (i : ℕ) (rest front : List ℕ) → Front f i rest front → overlay f i rest ≡ front ++ overlay f (i + length front) (drop (length front) rest)
+overlay-front f i rest front fr =
+    sym (take-append-drop (length front) (overlay f i rest)) ∙ ap (λ x. x ++ drop (length front) (overlay f i rest)) (sym fr.is)
+    ∙ ap (λ x. front ++ x) (sym (overlay-drop f i (length front) rest fr.most))
 
-  seen_more : seen ++ front ≡ take (d + length front) (overlay f i bs)
-  seen_more =
-      ap (λ x. seen ++ x) (fr.is ∙ ap (λ x. take (length front) (overlay f (i + d) x)) e ∙ ap (take (length front)) (overlay-drop f i d bs l))
-      ∙ sym (take-add d (length front) (overlay f i bs))
+-- a part of which some bytes were seen, and a front of its rest
+pub seen_more : (f : Known) (i j : ℕ) (part seen rest front : List ℕ) → overlay f i part ≡ seen ++ overlay f j rest → Front f j rest front →
+    overlay f i part ≡ (seen ++ front) ++ overlay f (j + length front) (drop (length front) rest)
+seen_more f i j part seen rest front e fr =
+    e ∙ ap (λ x. seen ++ x) (overlay-front f j rest front fr) ∙ sym (append_assoc seen front (overlay f (j + length front) (drop (length front) rest)))
 
-  pub front_most : d + length front ≤ length bs
-  front_most = let n : length front ≤ length (drop d bs) = subst (λ (x : List ℕ). length front ≤ length x) e fr.most in omega (arith, length-drop d bs)
+-- bytes that were looked at without finding a word, and those behind them
+pub look_at-append : (ws : List Text) (t xs ys : Text) (s : ℕ) (r : Result ℕ WordAt) → LookAt ws t xs (Ok s) → LookAt ws (t ++ xs) ys r → LookAt ws t (xs ++ ys) r
+look_at-append ws t xs ys s (Ok u) a b = (look-append ws xs ys t a.0 ∙ b.0, b.1 ∙ ap (run ws 0) (append_assoc t xs ys))
+look_at-append ws t xs ys s (Err w) a b = (b.0, look-append ws xs ys t a.0 ∙ b.1)
 
-  pub part_more : (ws : List Text) (t : Text) (s u : ℕ) → Judged ws t seen (Clean s) → Judged ws (t ++ seen) front (Clean u) → Judged ws t (take (d + length front) (overlay f i bs)) (Clean u)
-  part_more ws t s u a b = subst (λ (x : List ℕ). Judged ws t x (Clean u)) seen_more (judged_append ws t seen front s (Clean u) a b)
+-- bytes after the one that completes a word do not count
+pub look_at-on : (ws : List Text) (t xs ys : Text) (w : WordAt) → LookAt ws t xs (Err w) → LookAt ws t (xs ++ ys) (Err w)
+look_at-on ws t xs ys w a = (a.0, look_on ws xs ys t _ a.1)
 
-  pub part_found : (ws : List Text) (t : Text) (s k w : ℕ) → Judged ws t seen (Clean s) → Judged ws (t ++ seen) front (Found k w) → Judged ws t (overlay f i bs) (Found (d + k) w)
-  part_found ws t s k w a b =
-      let n : length seen ≡ d = length-take d (overlay f i bs) ∙ omega (arith, length-overlay f i bs) in
-      subst (λ (x : List ℕ). Judged ws t x (Found (d + k) w)) (take-append-drop (d + length front) (overlay f i bs))
-      (judged_on ws t (take (d + length front) (overlay f i bs)) (drop (d + length front) (overlay f i bs)) (d + k) w
-      (subst (λ (x : List ℕ). Judged ws t x (Found (d + k) w)) seen_more
-      (subst (λ (m : ℕ). Judged ws t (seen ++ front) (Found (m + k) w)) n (judged_append ws t seen front s (Found k w) a b))))
+pub look_at-none : (ws : List Text) (t : Text) (s : ℕ) → s ≡ run ws 0 t → LookAt ws t [] (Ok s)
+unfolding look
+look_at-none ws t s e = (refl, e ∙ ap (run ws 0) (sym (append-nil t)))
 
 -- The bytes by which the text grows
 
@@ -75,10 +72,6 @@ module _ (f : Known) (low w end place : ℕ) (bs : List ℕ) (above : low ≤ en
       ap (λ x. x ++ onwards w (place + length bs) f) d ∙ ap (λ x. drop (end - place) (overlay f place bs) ++ x) (sym k)
       ∙ sym (onwards-learn w place end bs f a (omega arith) (omega arith))
 
--- what was found in the new bytes, by places
-pub looked_clean : (ws : List Text) (t new more : Text) (s end : ℕ) → new ≡ more → end ≡ length t + length new → Judged ws t new (Clean s) → LookOf ws t more (Ok (record { end = end; state = s }))
-looked_clean ws t new more s end e n j = subst (λ (x : Text). LookOf ws t x (Ok (record { end = end; state = s }))) e (j.0, n ∙ sym (length-append t new), j.1)
-
-pub looked_word : (ws : List Text) (t new more : Text) (i w place : ℕ) → new ≡ more → place ≡ length t + i → Judged ws t new (Found i w) → LookOf ws t more (Err (record { place = place; word = w }))
-looked_word ws t new more i w place e n j =
-    subst (λ (x : Text). LookOf ws t x (Err (record { place = place; word = w }))) e (j.1, j.2 ∙ ap (λ p. Some (record { place = p; word = get_or ws w [] })) (sym n))
+-- how far the text reaches with the new bytes
+pub look_of : (ws : List Text) (t new more : Text) (s end : ℕ) → new ≡ more → end ≡ length t + length new → LookAt ws t new (Ok s) → LookOf ws t more (Ok (record { end = end; state = s }))
+look_of ws t new more s end e n j = subst (λ (x : Text). LookOf ws t x (Ok (record { end = end; state = s }))) e (j.0, n ∙ sym (length-append t new), j.1)

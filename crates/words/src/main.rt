@@ -1,9 +1,6 @@
 // Prints the table of a word list.
 #![tactic(auto)]
 
-ghost use Rattle.std.specs.Prelude.{◌≡◌};
-ghost use Rattle.automaton.specs.Lists.{refusal_number};
-
 use automaton::{ListError, ListFault, ListRefusal, Table, WordList};
 use std::alloc::{AllocError, Global};
 use std::io::Read;
@@ -31,7 +28,7 @@ twice. K counts from 0.
 #[derive(Drop)]
 enum Stop {
     Usage,
-    Fault(u8, usize),
+    Fault(ListFault),
     Failed(io::Error),
 }
 
@@ -47,14 +44,12 @@ impl From<AllocError> for Stop {
     }
 }
 
-// The number of a refusal.
-fn number(refusal: ListRefusal) -> u8
-    ensures { result ≡ refusal_number refusal }
-{
-    match refusal {
-        ListRefusal::Cut => 1,
-        ListRefusal::TooMuch => 11,
-        ListRefusal::Twice => 12,
+impl From<ListError> for Stop {
+    fn from(e: ListError) -> Stop {
+        match e {
+            ListError::Memory => Stop::from(AllocError),
+            ListError::Fault(fault) => Stop::Fault(fault),
+        }
     }
 }
 
@@ -63,16 +58,14 @@ fn read_list(rt: &HostRuntime) -> Result<WordList, Stop> {
     let heap = rt.alloc();
     let mut bytes = Vec::new(heap);
     rt.stdin().read_to_end(&mut bytes)?;
-    match WordList::read(heap, &bytes) {
-        Ok((list, taken)) => {
-            if taken < bytes.len() {
-                return Err(Stop::Fault(1, taken));
-            }
-            Ok(list)
-        }
-        Err(ListError::Fault(ListFault { refusal, at })) => Err(Stop::Fault(number(refusal), at)),
-        Err(ListError::Memory) => Err(Stop::from(AllocError)),
+    let (list, taken) = WordList::read(heap, &bytes)?;
+    if taken < bytes.len() {
+        return Err(Stop::Fault(ListFault {
+            refusal: ListRefusal::Cut,
+            at: taken,
+        }));
     }
+    Ok(list)
 }
 
 // The first `len` bytes of the word of a number.
@@ -197,7 +190,7 @@ fn main(rt: HostRuntime) -> io::Result<ExitCode> {
     match run(&rt) {
         Ok(()) => return Ok(ExitCode::SUCCESS),
         Err(Stop::Usage) => eprint!(rt; "{USAGE}")?,
-        Err(Stop::Fault(number, at)) => eprintln!(rt; "words: fault {number} at byte {at}")?,
+        Err(Stop::Fault(fault)) => eprintln!(rt; "words: {fault}")?,
         Err(Stop::Failed(e)) => eprintln!(rt; "words: {e}")?,
     }
     Ok(ExitCode::FAILURE)
