@@ -6,7 +6,7 @@ use automaton::{Table, WordList};
 use sequence::Place;
 use std::fmt::Display;
 use std::io;
-use stream::{Stream, Taken};
+use stream::{Refused, Stream};
 
 // one word, `ab`, as a word list
 const WORDS: [u8; 4] = [1, 2, b'a', b'b'];
@@ -99,19 +99,27 @@ impl Gate {
             .stream
             .take(&self.table, Place::At(place), &mut payload, false);
         match taken {
-            Taken::Passed { .. } => {
+            Ok(Some(_)) => {
                 let [out] = payload;
                 tell_of(rt, place, byte, format_args!("passed on: {}", out as char))?;
                 return Ok(Some(out));
             }
-            Taken::Empty => tell_of(rt, place, byte, format_args!("nothing is left of it"))?,
-            Taken::Word { place: end, .. } => tell_of(
+            Ok(None) => tell_of(rt, place, byte, format_args!("nothing is left of it"))?,
+            Err(Refused::Word(word)) => tell_of(
                 rt,
                 place,
                 byte,
-                format_args!("refused: a word would end at place {end}, and the stream is shut"),
+                format_args!(
+                    "refused: a word would end at place {}, and the stream is shut",
+                    word.place
+                ),
             )?,
-            Taken::Closed => tell_of(rt, place, byte, format_args!("refused: the stream is shut"))?,
+            Err(Refused::Shut) => tell_of(
+                rt,
+                place,
+                byte,
+                format_args!("refused: the stream is shut"),
+            )?,
         }
         Ok(None)
     }

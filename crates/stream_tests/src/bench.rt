@@ -3,7 +3,10 @@ use automaton::{Table, WordList};
 use sequence::Place;
 use std::fmt::Debug;
 use std::test::Fail;
-use stream::{Stream, Taken};
+use stream::{Passed, Refused, Stream, WordAt};
+
+// What is answered on a segment.
+pub type Answer = Result<Option<Passed>, Refused>;
 
 #[derive(Drop)]
 pub struct Bench {
@@ -34,7 +37,7 @@ impl Bench {
         at: Place,
         came: [u8; N],
         fin: bool,
-        answer: Taken,
+        answer: Answer,
         left: [u8; N],
     ) -> Result<(), Fail> {
         let mut bytes = came;
@@ -60,20 +63,20 @@ impl Bench {
 }
 
 // Bytes that go on without a FIN.
-pub fn passed(start: usize, end: usize, place: u64) -> Taken {
+pub fn passed(start: usize, end: usize, place: u64) -> Answer {
     passed_fin(start, end, place, None)
 }
 
 // Bytes, or none, and a FIN where one goes on.
-pub fn passed_fin(start: usize, end: usize, place: u64, fin: Option<u64>) -> Taken {
-    Taken::Passed {
+pub fn passed_fin(start: usize, end: usize, place: u64, fin: Option<u64>) -> Answer {
+    Ok(Some(Passed {
         start,
         end,
         place,
         fin,
-    }
+    }))
 }
 
-pub fn word_at(place: u64, word: u8) -> Taken {
-    Taken::Word { place, word }
+pub fn word_at(place: u64, word: u8) -> Answer {
+    Err(Refused::Word(WordAt { place, word }))
 }

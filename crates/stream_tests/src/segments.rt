@@ -2,7 +2,7 @@
 use crate::bench::{Bench, passed, passed_fin, word_at};
 use sequence::Place;
 use std::test::Fail;
-use stream::Taken;
+use stream::Refused;
 
 #[test]
 fn first_byte_stays(rt: HostRuntime) -> Result<(), Fail> {
@@ -32,9 +32,9 @@ fn below_place_zero(rt: HostRuntime) -> Result<(), Fail> {
     assert_eq!(rt; bench.stream.differs(Place::Below(1), b"xcx"), true);
     assert_eq!(rt; bench.stream.differs(Place::Below(1), b"xcd"), false);
     // nothing is left, and a FIN below place 0, or where a byte is known, is not kept
-    bench.sends(Place::Below(5), *b"ab", false, Taken::Empty, *b"ab")?;
-    bench.sends(Place::Below(3), *b"ab", true, Taken::Empty, *b"ab")?;
-    bench.sends(Place::Below(2), *b"ab", true, Taken::Empty, *b"ab")
+    bench.sends(Place::Below(5), *b"ab", false, Ok(None), *b"ab")?;
+    bench.sends(Place::Below(3), *b"ab", true, Ok(None), *b"ab")?;
+    bench.sends(Place::Below(2), *b"ab", true, Ok(None), *b"ab")
 }
 
 #[test]
@@ -48,7 +48,7 @@ fn window_moves(rt: HostRuntime) -> Result<(), Fail> {
         [5; 1030],
     )?;
     bench.reaches(1024, 1024)?;
-    bench.sends(Place::At(1024), [6], false, Taken::Empty, [6])?;
+    bench.sends(Place::At(1024), [6], false, Ok(None), [6])?;
     bench.stream.acknowledge(Place::Below(9));
     assert_eq!(rt; bench.stream.marks().low, 0);
     bench.stream.acknowledge(Place::At(1000));
@@ -83,7 +83,7 @@ fn fin_is_last(rt: HostRuntime) -> Result<(), Fail> {
     let mut bench = Bench::new(&rt, b"\x01\x02zz")?;
     // FIN first: what comes at it or after it is left off, and no other is kept
     bench.sends(Place::At(4), *b"", true, passed_fin(0, 0, 4, Some(4)), *b"")?;
-    bench.sends(Place::At(4), *b"e", false, Taken::Empty, *b"e")?;
+    bench.sends(Place::At(4), *b"e", false, Ok(None), *b"e")?;
     bench.sends(Place::At(2), *b"cde", true, passed(0, 2, 2), *b"cde")?;
     bench.reaches(0, 0)?;
     bench.sends(Place::At(0), *b"ab", true, passed(0, 2, 0), *b"ab")?;
@@ -100,7 +100,7 @@ fn fin_is_last(rt: HostRuntime) -> Result<(), Fail> {
     bench.stream.clear();
     bench.sends(Place::At(0), *b"abcdef", false, passed(0, 6, 0), *b"abcdef")?;
     bench.sends(Place::At(2), *b"cd", true, passed(0, 2, 2), *b"cd")?;
-    bench.sends(Place::At(4), *b"", true, Taken::Empty, *b"")?;
+    bench.sends(Place::At(4), *b"", true, Ok(None), *b"")?;
     bench.reaches(6, 6)?;
     bench.sends(Place::At(6), *b"", true, passed_fin(0, 0, 6, Some(6)), *b"")?;
     bench.reaches(6, 7)
@@ -114,7 +114,7 @@ fn words_across(rt: HostRuntime) -> Result<(), Fail> {
         bench.sends(Place::At(place), *b"a", false, passed(0, 1, place), *b"a")?;
     }
     bench.sends(Place::At(3), *b"b", true, word_at(3, 1), *b"b")?;
-    bench.sends(Place::At(0), *b"xy", false, Taken::Closed, *b"xy")?;
+    bench.sends(Place::At(0), *b"xy", false, Err(Refused::Shut), *b"xy")?;
     bench.stream.acknowledge(Place::At(2));
     assert_eq!(rt; bench.stream.marks().low, 0);
     bench.reaches(3, 3)?;
