@@ -2,6 +2,7 @@
 #![tactic(auto)]
 
 ghost use Rattle.std.specs.Prelude.{◌≡◌, ℕ, ◌++◌, Some, codes, decimal};
+ghost use Rattle.fault.specs.Behind.{Behind};
 ghost use Rattle.fault.specs.declared.ReadError.TheVariants as error;
 
 use std::alloc::{AllocError, AllocFailed};
@@ -38,6 +39,21 @@ impl<R: Numbered + Copy> fmt::Display for Fault<R> {
 pub enum ReadError<R> {
     Memory,
     Fault(Fault<R>),
+}
+
+impl<R> ReadError<R> {
+    // The error in an input of which what was read is the part behind the first `bytes`. Places are counted modulo 2^64.
+    pub fn behind<S: From<R>>(self, bytes: usize) -> ReadError<S>
+        ensures { Behind S.from_gives bytes self result }
+    {
+        match self {
+            ReadError::Memory => ReadError::Memory,
+            ReadError::Fault(Fault { refusal, at }) => ReadError::Fault(Fault {
+                refusal: S::from(refusal),
+                at: bytes.wrapping_add(at),
+            }),
+        }
+    }
 }
 
 impl<R> From<AllocError> for ReadError<R> {

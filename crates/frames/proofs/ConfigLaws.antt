@@ -1,5 +1,5 @@
 -- Reading the configuration: what the parts of the reader say of the whole. Assumes nothing.
-use Rattle.std.proofs.Common.{◌≡◌, ℕ, ◌+◌, ◌-◌, ◌^◌, ◌<◌, ◌≤◌, length, take, drop, Ok, Err, Result, sym, ap, ◌∙◌, subst, arith}
+use Rattle.std.proofs.Common.{◌≡◌, ℕ, ◌+◌, ◌-◌, ◌^◌, ◌<◌, ◌≤◌, length, take, drop, MatchResult, Ok, Err, Result, sym, ap, ◌∙◌, subst, arith}
 use Rattle.std.proofs.lemmas.List.{length-drop, take_rest}
 use Rattle.automaton.specs.Lists.{ReadList, word_list}
 use Rattle.automaton.specs.ReadList.{Reads}
@@ -9,7 +9,8 @@ use Rattle.fault.specs.declared.ReadError.{ReadError}
 use Rattle.fault.specs.declared.ReadError.TheVariants as error
 use Rattle.packet.specs.Bytes.{Bytes}
 use Rattle.frames.specs.Items.{header}
-use Rattle.frames.specs.Configs.{OnFault, ReadsConfig, configuration, error_of, with_header, with_list}
+use Rattle.fault.specs.Behind.{Behind}
+use Rattle.frames.specs.Configs.{ReadsConfig, configuration, fault_of, refusal_of, with_header, with_list}
 use Rattle.frames.specs.declared.refusal.Refusal.{Refusal}
 use Rattle.frames.proofs.ListBounds.{Within, list_within}
 
@@ -26,13 +27,22 @@ taken_within bs r l e =
     let k : length (rest bs) ≡ length bs - 6 = ap length (take_rest bs 6) ∙ length-drop 6 bs in
     omega arith
 
-pub fault_within : (bs : Bytes) (e : ReadError ListRefusal) → 6 ≤ length bs → length bs < 2 ^ 64 → Reads (rest bs) (Err e) → OnFault e (λ f. f.at + 6 < 2 ^ 64)
-fault_within bs error.Memory l m h = tt
-fault_within bs (error.Fault f) l m h =
-    let w : f.at ≤ length (rest bs) = subst (Within (length (rest bs))) h (list_within (rest bs)) in
-    let k : length (rest bs) ≡ length bs - 6 = ap length (take_rest bs 6) ∙ length-drop 6 bs in
-    omega arith
+-- what was read before its error was made anew
+pub was_ok : {T E : Type 0} (D : Type 0) (r : Result T E) (x : T) → MatchResult r (λ y. ◌≡◌ {A = Result T D} (Ok x) (Ok y)) (λ e. ⊥) → r ≡ Ok x
+was_ok D (Ok y) x m = cc
+was_ok D (Err e) x m = absurd m
 
-pub reads_fault : (bs : Bytes) (h : ℕ × ℕ) (e : ReadError ListRefusal) → Ok h ≡ header bs → Reads (rest bs) (Err e) → ReadsConfig bs (Err (error_of e))
-reads_fault bs h error.Memory p r = tt
-reads_fault bs h (error.Fault f) p r = config_is bs h (Err f) p r
+-- the fault of a list is that of the whole, behind the header
+same_fault : (f : Fault ListRefusal) (g : Fault Refusal) → g.refusal ≡ refusal_of f.refusal → g.at ≡ 6 + f.at → fault_of f ≡ g
+same_fault f g a b = sym (ap (λ (x : Refusal). record { refusal = x; at = g.at }) a ∙ ap (λ (n : ℕ). record { refusal = refusal_of f.refusal; at = n }) b)
+
+pub reads_behind : (bs : Bytes) (h : ℕ × ℕ) (e : ReadError ListRefusal) (g : ReadError Refusal) → Ok h ≡ header bs → 6 ≤ length bs → length bs < 2 ^ 64 →
+    Reads (rest bs) (Err e) → Behind (λ why x. x ≡ refusal_of why) 6 e g → ReadsConfig bs (Err g)
+reads_behind bs h error.Memory error.Memory p l m r b = tt
+reads_behind bs h error.Memory (error.Fault g) p l m r b = absurd b
+reads_behind bs h (error.Fault f) error.Memory p l m r b = absurd b
+reads_behind bs h (error.Fault f) (error.Fault g) p l m r b =
+    let w : f.at ≤ length (rest bs) = subst (Within (length (rest bs))) r (list_within (rest bs)) in
+    let k : length (rest bs) ≡ length bs - 6 = ap length (take_rest bs 6) ∙ length-drop 6 bs in
+    let e : g.at ≡ 6 + f.at = omega (arith, b.1) in
+    config_is bs h (Err f) p r ∙ ap Err (same_fault f g b.0 e)

@@ -28,15 +28,6 @@ refusal_of list.Twice = Twice
 abbrev pub fault_of : Fault ListRefusal → Fault Refusal
 fault_of f = record { refusal = refusal_of f.refusal; at = 6 + f.at }
 
-abbrev pub error_of : ReadError ListRefusal → ReadError Refusal
-error_of error.Memory = error.Memory
-error_of (error.Fault f) = error.Fault (fault_of f)
-
--- what holds of the fault of a list, if it has one
-abbrev pub OnFault : ReadError ListRefusal → (Fault ListRefusal → Type 0) → Type 0
-OnFault error.Memory P = Unit {0}
-OnFault (error.Fault f) P = P f
-
 abbrev pub with_list : ℕ × ℕ → Result ReadList (Fault ListRefusal) → Result ReadSettings (Fault Refusal)
 with_list h (Ok r) = Ok (record { settings = record { width = 2 ^ h.0; quiet = h.1; words = r.words }; taken = 6 + r.taken })
 with_list h (Err f) = Err (fault_of f)

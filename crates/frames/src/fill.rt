@@ -102,11 +102,7 @@ impl Input {
                 self.offset = self.offset.wrapping_add(taken);
                 Ok(config)
             }
-            Err(ConfigError::Fault(fault)) => Err(ConfigError::Fault(Fault {
-                refusal: fault.refusal,
-                at: self.offset.wrapping_add(fault.at),
-            })),
-            Err(ConfigError::Memory) => Err(ConfigError::Memory),
+            Err(error) => Err(error.behind(self.offset)),
         }
     }
 

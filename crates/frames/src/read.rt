@@ -1,13 +1,13 @@
 // Reading the configuration and the items from the front of some bytes.
 ghost use Rattle.frames.specs.Kinds.{KindOf};
 ghost use Rattle.frames.specs.Items.{ReadsItem, header, item, packet_item, ticks_item};
-ghost use Rattle.frames.specs.Configs.{OnFault, ReadsConfig, error_of};
+ghost use Rattle.frames.specs.Configs.{ReadsConfig};
 ghost use Rattle.std.specs.Prelude.{◌≡◌, ◌+◌, ◌^◌, ◌<◌, ◌≤◌, length, IfOk};
 
 use crate::config::Config;
 use crate::item::Item;
 use crate::refusal::{ConfigError, Fault, Refusal};
-use automaton::{ListError, WordList};
+use automaton::WordList;
 use filter::Side;
 use std::alloc::Global;
 
@@ -110,39 +110,21 @@ fn read_header(bytes: &[u8]) -> Result<(u8, u32), Refusal>
     Ok((*power, u32::from_be_bytes([*a, *b, *c, *d])))
 }
 
-// Why a word list that stands behind the header is refused.
-fn list_error(error: ListError) -> ConfigError
-    requires { OnFault error (λ f. f.at + 6 < 2 ^ 64) }
-    ensures { result ≡ error_of error }
-{
-    match error {
-        ListError::Memory => ConfigError::Memory,
-        ListError::Fault(fault) => ConfigError::Fault(Fault {
-            refusal: Refusal::from(fault.refusal),
-            at: HEADER + fault.at,
-        }),
-    }
-}
-
 impl Config {
     // Reads a configuration from the front of some bytes, and says how many of them it takes.
     pub fn read(heap: Global, bytes: &[u8]) -> Result<(Config, usize), ConfigError>
         ensures { ReadsConfig bytes.now result }
     {
-        let (power, quiet) = match read_header(bytes) {
-            Ok(header) => header,
-            Err(refusal) => return Err(ConfigError::Fault(Fault { refusal, at: 0 })),
+        let (power, quiet) = read_header(bytes).map_err(|refusal| Fault { refusal, at: 0 })?;
+        let (words, taken) = match WordList::read(heap, &bytes[HEADER..]) {
+            Ok(list) => list,
+            Err(error) => return Err(error.behind(HEADER)),
         };
-        match WordList::read(heap, &bytes[HEADER..]) {
-            Ok((words, taken)) => Ok((
-                Config {
-                    power,
-                    quiet,
-                    words,
-                },
-                HEADER + taken,
-            )),
-            Err(error) => Err(list_error(error)),
-        }
+        let config = Config {
+            power,
+            quiet,
+            words,
+        };
+        Ok((config, HEADER + taken))
     }
 }
