@@ -1,6 +1,10 @@
 // Why reading an input ends, and at which byte.
 #![tactic(auto)]
 
+mod stop;
+
+pub use stop::Stop;
+
 ghost use Rattle.std.specs.Prelude.{◌≡◌, ℕ, ◌++◌, Some, codes, decimal};
 ghost use Rattle.fault.specs.Behind.{Behind};
 ghost use Rattle.fault.specs.declared.ReadError.TheVariants as error;

@@ -5,7 +5,6 @@ ghost use Rattle.std.specs.Prelude.{◌≤◌, length};
 
 use filter::Side;
 use frames::{Config, ConfigError, Fault, Input, Item, Refusal};
-use std::alloc::AllocError;
 use std::io::Read;
 use std::process::ExitCode;
 use std::{env, io};
@@ -27,47 +26,24 @@ word, 12 for a word that stands twice. K counts from 0.
 ";
 
 // Why the gate ends before its input does.
-#[derive(Drop)]
-enum Stop {
-    Usage,
-    Fault(Fault),
-    Failed(io::Error),
-}
+type Stop = fault::Stop<Refusal>;
 
-impl From<io::Error> for Stop {
-    fn from(e: io::Error) -> Stop {
-        Stop::Failed(e)
-    }
-}
-
-impl From<AllocError> for Stop {
-    fn from(e: AllocError) -> Stop {
-        Stop::Failed(io::Error::from(e))
-    }
-}
-
-// No input is so long that its turns cannot be counted.
-fn gave_up() -> Stop {
-    Stop::Failed(io::Error::from(io::ErrorKind::Other))
-}
-
-// Reads the configuration that stands first, however many pieces it comes in.
+// Reads the configuration that stands first, however many pieces it comes in: one that is cut is short, so there is room for more of it.
 fn read_config<R: Read>(
     rt: &HostRuntime,
     input: &mut Input,
     source: &mut R,
 ) -> Result<Config, Stop> {
-    for _ in 0..u64::MAX {
+    loop {
         let fault = match input.config(rt.alloc()) {
             Ok(config) => return Ok(config),
-            Err(ConfigError::Memory) => return Err(Stop::from(AllocError)),
             Err(ConfigError::Fault(fault)) => fault,
+            Err(error) => return Err(Stop::from(error)),
         };
         if fault.refusal != Refusal::Cut || input.fill(source)? == 0 {
             return Err(Stop::Fault(fault));
         }
     }
-    Err(gave_up())
 }
 
 // What is done with a packet that stands in a buffer: until there is a filter, every one is dropped.
@@ -95,6 +71,7 @@ fn take_items(input: &mut Input) -> Fault {
 fn pass<R: Read>(rt: &HostRuntime, source: &mut R) -> Result<(), Stop> {
     let mut input = Input::new(rt.alloc())?;
     let _config = read_config(rt, &mut input, source)?;
+    // the input may never end; no input is so long that its turns cannot be counted
     for _ in 0..u64::MAX {
         let fault = take_items(&mut input);
         if fault.refusal != Refusal::Cut {
@@ -107,7 +84,7 @@ fn pass<R: Read>(rt: &HostRuntime, source: &mut R) -> Result<(), Stop> {
             return Err(Stop::Fault(fault));
         }
     }
-    Err(gave_up())
+    Err(Stop::from(io::Error::from(io::ErrorKind::Other)))
 }
 
 fn run(rt: &HostRuntime) -> Result<(), Stop> {
