@@ -10,7 +10,7 @@ ghost use Rattle.filter.specs.Held.{Acknowledges, Held, Left, above};
 ghost use Rattle.filter.specs.declared.verdict.Verdict.TheVariants.{Pass};
 
 use crate::connection::Connection;
-use packet::edit::{Edit, Patch};
+use packet::edit::Edit;
 use packet::rewrite::rewrite;
 use packet::segment::Segment;
 use sequence::{Place, number_of, place_of};
@@ -48,6 +48,6 @@ impl Connection {
         }
         let mut edit = Edit::none(segment, len);
         edit.acknowledged = number_of(self.first, limit);
-        rewrite(packet, edit, Patch::none(segment.payload))
+        rewrite(packet, edit, None)
     }
 }
