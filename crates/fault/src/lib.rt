@@ -3,14 +3,13 @@
 
 mod stop;
 
-pub use stop::Stop;
-
 ghost use Rattle.std.specs.Prelude.{◌≡◌, ℕ, ◌++◌, Some, codes, decimal};
 ghost use Rattle.fault.specs.Behind.{Behind};
 ghost use Rattle.fault.specs.declared.ReadError.TheVariants as error;
 
 use std::alloc::{AllocError, AllocFailed};
 use std::fmt;
+pub use stop::Stop;
 
 // Why something that was read is refused. It is reported under a number.
 pub trait Numbered {

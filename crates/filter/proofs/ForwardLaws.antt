@@ -1,13 +1,13 @@
 -- A sender's segment goes on as decided.
 -- Assumes nothing.
-use Rattle.std.proofs.Common.{◌≡◌, ℕ, ◌+◌, ◌-◌, ◌*◌, ◌/◌, ◌≤◌, Bool, true, false, cond, ltb, [], ◌∷◌, ◌++◌, length, take, drop, is_some, Some, None, Ok, Err, Option, Result, sym, refl, ap, ◌∙◌, subst, inl, inr, arith, take-add}
+use Rattle.std.proofs.Common.{◌≡◌, ℕ, ◌+◌, ◌-◌, ◌*◌, ◌/◌, ◌≤◌, Bool, true, false, cond, ltb, [], ◌∷◌, ◌++◌, length, take, drop, is_some, Some, None, IfSome, Ok, Err, Option, Result, sym, refl, ap, ◌∙◌, subst, inl, inr, arith, take-add}
 use borrow.Rule.Slice.PartMut.{put_mid, post_of}
 use Rattle.std.specs.List.{between}
 use Rattle.std.specs.Option.{option_or}
 use Rattle.std.proofs.lemmas.List.{append-nil, drop_all, drop_at, drop-drop, length-append, length-drop, length-take, take-append-drop, take-take}
 use Rattle.std.proofs.lemmas.Slice.{between_to_end, take-put_mid_below}
 use Rattle.std.proofs.lemmas.List.Edits.{length-between}
-use Rattle.std.proofs.lemmas.Bool.{cases_Bool, cond-false, cond-true, le-ltb, lt-ltb}
+use Rattle.std.proofs.lemmas.Bool.{both_ways, cases_Bool, cond-false, cond-true, le-ltb, lt-ltb}
 use Rattle.packet.specs.Bytes.{Bytes, byte}
 use Rattle.packet.specs.Packet.{head_length, packet, rewrite}
 use Rattle.packet.specs.declared.edit.Edit.{Edit}
@@ -107,6 +107,10 @@ module _ (old rest : Bytes) (start : ℕ) (l : start ≤ length old) (n : length
 
   pub within_new : 40 ≤ start → start ≡ head_length old → (a b : ℕ) → a ≤ b → start + b ≤ length old → Within new (start + a) (start + b)
   within_new h e a b o m = record { begins = rw (head_new h) (omega arith); ordered = omega arith; ends = rw long_new m }
+
+  -- all of the payload is what may have been overwritten
+  pub patch_within : 40 ≤ start → start ≡ head_length old → (patch : Patch) → Before old start (length old) patch → Within new patch.start patch.end
+  patch_within h e patch b = record { begins = rw (head_new h) (omega (arith, b.start)); ordered = omega (arith, b.start, b.end); ends = rw long_new (omega (arith, b.end)) }
 
   -- nothing was overwritten
   pub same_new : rest ≡ drop start old → new ≡ old
@@ -313,13 +317,13 @@ module _ (c : Config) (m : Connection) (v : Value) (h : Held c m v) where
 
         -- the patch says what was overwritten
         pub patched : (b : Bool) → Differs c.width m.stream (piece_of (segment_at m (packet old))) b →
-            (patch : Patch) → (b ≡ true → Before old sg.payload (length old) patch) → (b ≡ false → (p : Bytes) → Overwritten p p patch) →
+            (patch : Option Patch) → is_some patch ≡ b → IfSome patch (Before old sg.payload (length old)) →
             sg.payload ≤ length old → length rest ≡ length old - sg.payload → Overwritten old (put_mid sg.payload (length old - sg.payload) old rest) patch
-        patched true d patch known nothing l n =
-            overwritten old rest sg.payload (length old) patch (known refl) l (omega arith) n (λ e. d (not_changed e))
-        patched false d patch known nothing l n =
-            subst (λ (x : Bytes). Overwritten old x patch)
-            (sym (same_new old rest sg.payload l n (kept_same d ∙ between_to_end old sg.payload (length old) (omega arith)))) (nothing refl old)
+        patched true d (Some patch) is known l n =
+            overwritten old rest sg.payload (length old) patch known l (omega arith) n (λ e. d (not_changed e))
+        patched false d None is known l n = same_new old rest sg.payload l n (kept_same d ∙ between_to_end old sg.payload (length old) (omega arith))
+        patched true d None is known l n = absurd (both_ways _ (sym is) refl)
+        patched false d (Some patch) is known l n = absurd (both_ways _ refl (sym is))
 
       -- The answers
 

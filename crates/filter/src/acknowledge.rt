@@ -8,7 +8,7 @@ ghost use Rattle.filter.specs.Gate.{Connection as Model};
 ghost use Rattle.filter.specs.Held.{Acknowledges, Held, Left, above};
 
 use crate::connection::Connection;
-use packet::edit::{Edit, Patch};
+use packet::edit::Edit;
 use packet::rewrite::rewrite;
 use packet::segment::Segment;
 use sequence::{Place, number_of};
@@ -47,7 +47,7 @@ impl Connection {
         }
         let mut edit = Edit::none(segment, len);
         edit.acknowledged = number_of(self.first, limit);
-        let (start, end) = rewrite(packet, edit, Patch::none(segment.payload));
+        let (start, end) = rewrite(packet, edit, None);
         start..end
     }
 }

@@ -79,11 +79,10 @@ impl Connection {
         let start = segment.payload;
         let len = packet.len();
         let at = self.place(segment.number);
-        let patch = if self.stream.differs(at, &packet[start..]) {
-            Patch::before(packet, start, len)
-        } else {
-            Patch::none(start)
-        };
+        let patch = self
+            .stream
+            .differs(at, &packet[start..])
+            .then(|| Patch::before(packet, start, len));
         let passed = self
             .stream
             .take(table, at, &mut packet[start..], segment.marks.fin)?;

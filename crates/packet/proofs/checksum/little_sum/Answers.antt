@@ -1,17 +1,15 @@
-use Rattle.std.proofs.Common.{◌≡◌, drop, sym, ap, ◌∙◌, arith}
-use Rattle.std.proofs.lemmas.List.{take_rest}
+use Rattle.std.proofs.Common.{◌/◌, length, ap, ◌∙◌, arith}
+use Rattle.std.proofs.lemmas.List.{take_all}
+use Rattle.std.specs.Int.{from_le_bytes, w32}
+use Rattle.std.specs.List.{sum_by}
 use Rattle.packet.specs.Checksum.{little_sum}
-use Rattle.packet.proofs.SumLaws.{little_more}
+use Rattle.packet.proofs.SumLaws.{little_words}
 use Rattle.packet.proofs.checksum.little_sum.Goals as goal
 
-pub loop-i-preserved : goal.loop-i-preserved
-loop-i-preserved c = (
-  omega (arith, little_more c.args.bytes.now c.loop-i.i c.loop-i-test.true),
-  omega arith,
-  omega arith,
-)
-
-pub returns : goal.returns
-returns c =
-    let last : little_sum (drop c.loop-i.i c.args.bytes.now) ≡ c.last_bytes.result = sym (c.last_bytes.ensures.value ∙ ap little_sum (take_rest c.args.bytes.now c.loop-i.i)) in
-    record { value = omega arith; bound = omega arith }
+pub returns-clause-value : goal.returns-clause-value
+returns-clause-value c =
+    let bytes = c.args.bytes.now in
+    let words = c.as_chunks.result.0.now in
+    let summed = ap (sum_by (from_le_bytes w32)) (take_all c.loop-word.word-index words c.loop-word-test.false ∙ c.as_chunks.ensures.front) in
+    let last = ap little_sum c.as_chunks.ensures.back in
+    omega (arith, little_words (length bytes / 4) bytes (omega arith), summed, last)

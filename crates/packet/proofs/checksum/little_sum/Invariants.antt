@@ -1,10 +1,7 @@
-use Rattle.std.proofs.Common.{◌≡◌, ◌+◌, ◌-◌, ◌*◌, ◌≤◌, length, drop}
-use Rattle.packet.specs.Checksum.{little_sum}
+use Rattle.std.proofs.Common.{◌≡◌, ◌*◌, ◌≤◌, take}
+use Rattle.std.specs.Int.{from_le_bytes, w32}
+use Rattle.std.specs.List.{sum_by}
 use Rattle.packet.proofs.checksum.little_sum.Given as goal
 
--- what is left of the sum is that of the bytes that are left
-abbrev pub invariant-loop-i : goal.invariant-loop-i
-invariant-loop-i l = (l.sum + little_sum (drop l.i l.bytes) ≡ little_sum l.bytes) × (l.sum ≤ 1073741824 * l.i) × (l.i ≤ length l.bytes)
-
-abbrev pub decreases-loop-i : goal.decreases-loop-i
-decreases-loop-i l = length l.bytes - l.i
+abbrev pub invariant-loop-word : goal.invariant-loop-word
+invariant-loop-word l = (l.sum ≡ sum_by (from_le_bytes w32) (take l.word-index l.words)) × (l.sum ≤ 4294967295 * l.word-index)

@@ -59,7 +59,7 @@ returns c =
           ap (λ j. between c.none-edit.result.start j old) k0.end ∙ between_to_end old c.none-edit.result.start (length old) (omega arith)
           ∙ ap (λ i. drop i old) (k0.start ∙ rd.1.payload) in
           let out : between c.rewrite-start.result.0 c.rewrite-start.result.1 c.rewrite-start.new.packet ≡ lowered m (packet old) (acked_at m (packet old)) =
-          c.rewrite-start.ensures.out old rd.0 (c.none.ensures.nothing old)
+          c.rewrite-start.ensures.out old rd.0 refl
           ∙ ap (λ x. rewrite (packet old) x c.number_of.result c.none-edit.result.marks (between c.none-edit.result.start c.none-edit.result.end old)) (k0.number ∙ rd.1.number)
           ∙ ap (λ x. rewrite (packet old) (packet old).number x c.none-edit.result.marks (between c.none-edit.result.start c.none-edit.result.end old)) (c.number_of.ensures ∙ ap (λ f. number_of f limit) h.first)
           ∙ ap (λ x. rewrite (packet old) (packet old).number (number_of m.first limit) x (between c.none-edit.result.start c.none-edit.result.end old)) (k0.marks ∙ rd.1.marks)

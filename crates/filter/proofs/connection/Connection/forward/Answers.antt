@@ -1,9 +1,11 @@
-use Rattle.std.proofs.Common.{◌≡◌, ◌+◌, ◌-◌, ◌≤◌, length, Ok, Err, sym, refl, ap, ◌∙◌, arith}
-use Rattle.std.proofs.lemmas.Bool.{both_ways, cond-false, cond-true}
+use Rattle.std.proofs.Common.{◌≡◌, ◌-◌, ◌≤◌, length, IfSome, Ok, Err, sym, refl, ap, ◌∙◌, arith, rules}
+use Rattle.packet.specs.Rewrites.{Before}
+use Rattle.std.proofs.lemmas.Option.{IfSome_then}
+use Rattle.std.proofs.lemmas.Bool.{cond-false, cond-true}
 use Rattle.std.proofs.lemmas.Result.{err_from_is_err_and}
-use Rattle.filter.proofs.ForwardLaws.{differs_model, edit_within, err_left, handles_empty, handles_pass, handles_untaken, part_new, pass_left, patched, payload_length, untaken_left, whole_new, within_new}
+use Rattle.filter.proofs.ForwardLaws.{differs_model, edit_within, err_left, handles_empty, handles_pass, handles_untaken, part_new, pass_left, patch_within, patched, payload_length, untaken_left, whole_new}
 use Rattle.filter.proofs.connection.Connection.forward.Goals as goal
-use Rattle.filter.proofs.connection.Connection.forward.Goals.{then-differs, else-differs, then-segment, else-segment}
+use Rattle.filter.proofs.connection.Connection.forward.Goals.{then-segment, else-segment}
 
 pub rewrite-start-requires : goal.rewrite-start-requires
 rewrite-start-requires c =
@@ -14,19 +16,11 @@ rewrite-start-requires c =
     let l : sg.payload ≤ length old = omega (arith, rd.1.payload, rd.2.fits) in
     let n : length rest ≡ length old - sg.payload = c.take.auto.payload ∙ payload_length old sg.payload in
     let least : 40 ≤ sg.payload = omega (arith, rd.1.payload, rd.2.words) in
+    let before : IfSome c.then-patch.result (Before old sg.payload (length old)) = IfSome_then c.then-patch.result c.then-patch.ensures.some (λ p made. search rules) in
     record {
       whole = whole_new old rest sg.payload l n least rd.2;
       kept = edit_within old rest sg.payload l n c.args.self.now.first sg refl c.in_ok-passed.passed c.in_ok-passed.ensures.left least rd.1.payload c.in_ok-edit.edit (sym c.edit_left.ensures ∙ c.in_ok-edit.was);
-      patched = elim c.if-differs.branch [
-        | then-differs w ↦
-            let es : c.if-differs.patch.start ≡ sg.payload + 0 = ap (λ p. p.start) w.patch-is ∙ w.before-patch.ensures.start ∙ omega arith in
-            let ee : c.if-differs.patch.end ≡ sg.payload + (length old - sg.payload) = ap (λ p. p.end) w.patch-is ∙ w.before-patch.ensures.end ∙ omega arith in
-            rw (es, ee) (within_new old rest sg.payload l n least rd.1.payload 0 (length old - sg.payload) (omega arith) (omega arith))
-        | else-differs w ↦
-            let es : c.if-differs.patch.start ≡ sg.payload + 0 = ap (λ p. p.start) w.patch-is ∙ w.none-patch.ensures.place.0 ∙ omega arith in
-            let ee : c.if-differs.patch.end ≡ sg.payload + 0 = ap (λ p. p.end) w.patch-is ∙ w.none-patch.ensures.place.1.0 ∙ omega arith in
-            rw (es, ee) (within_new old rest sg.payload l n least rd.1.payload 0 0 (omega arith) (omega arith))
-      ];
+      patched = IfSome_then c.then-patch.result before (λ p b. patch_within old rest sg.payload l n least rd.1.payload p b);
     }
 
 pub returns-in_err-passed : goal.returns-in_err-passed
@@ -84,15 +78,8 @@ returns c =
           let took = taken.took cf.words h.before ne tb h.stands in
           let over = patched cf m v h old sg c.place-at.result ne rd (c.place-at.ensures cf m ne h) c.take.new.self rest (Ok passed) c.take.ensures.width took passed refl taken.left
           c.differs.result (differs_model cf m v h old sg c.place-at.result ne rd (c.place-at.ensures cf m ne h) c.differs.result (c.differs.ensures cf.words h.before ne h.stands))
-          c.if-differs.patch
-          (λ b. elim c.if-differs.branch [
-            | then-differs w ↦ rw w.patch-is w.before-patch.ensures
-            | else-differs w ↦ absurd (both_ways _ w.if-differs.false b)
-          ])
-          (λ b. elim c.if-differs.branch [
-            | then-differs w ↦ absurd (both_ways _ b w.if-differs.true)
-            | else-differs w ↦ rw w.patch-is w.none-patch.ensures.nothing
-          ]) l n in
+          c.then-patch.result c.then-patch.ensures.variant
+          (IfSome_then c.then-patch.result c.then-patch.ensures.some (λ p made. search rules)) l n in
           handles_pass cf m v h old sg c.place-at.result ne rd (c.place-at.ensures cf m ne h) c.take.new.self rest (Ok passed) c.take.ensures.width took
           k _ c.rewrite-start.new.packet c.rewrite-start.result.0 c.rewrite-start.result.1 c.in_ok-edit.edit c.if-segment.self c.take.auto.payload
           (c.rewrite-start.ensures.out old rd.0 over) (part_new old rest sg.payload l n)
