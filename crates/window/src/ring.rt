@@ -1,62 +1,143 @@
 // A ring of bytes, with a bit for each cell: is its byte known.
-ghost use Rattle.std.specs.Prelude.{◌≡◌, ℕ, ◌+◌, ◌*◌, ◌<◌, ◌≤◌, length, Decides, slice_index};
-ghost use Rattle.window.specs.Ring.{Agrees, Copied, Overlaid, cell};
+ghost use Rattle.std.specs.Prelude.{◌≡◌, ℕ, ◌+◌, ◌-◌, ◌*◌, ◌/◌, ◌%◌, ◌^◌, ◌<◌, ◌≤◌, min, length, None, Some, vec_len, replicate, if◌then◌else◌, slice_index, Decides, IfOk};
+ghost use Rattle.std.specs.Int.{IsPowerOfTwo};
+ghost use Rattle.window.specs.Known.{inside, none_known, onwards, overlay};
+ghost use Rattle.window.specs.Ring.{Front};
 
-use crate::bits;
+use crate::bits::Bitmap;
+use std::alloc::{AllocError, Global};
 
-// Copies a part into the ring: `first` bytes from the cell `at` on, the others from the ring's start on.
-pub fn copy_in(ring: &mut [u8], at: usize, first: usize, part: &[u8])
-    requires run { at + first ≤ length ring.old }
-    requires first { first ≤ length part.now }
-    requires apart { length part.now ≤ first + at }
-    ensures { Copied ring.old part.now at first ring.new }
-{
-    let rest = part.len() - first;
-    ring[at..at + first].copy_from_slice(&part[0..first]);
-    ring[0..rest].copy_from_slice(&part[first..]);
+// Place p has cell p mod the number of cells.
+#[derive(Drop)]
+pub struct Ring {
+    bytes: Vec<u8>,
+    known: Bitmap,
+    ghost bits: { vec_len known.words * 64 ≡ vec_len bytes },
+    ghost least: { 1024 ≤ vec_len bytes },
+    ghost most: { vec_len bytes ≤ 65536 },
+    ghost round: { ∥ IsPowerOfTwo (vec_len bytes) ∥₁ },
 }
 
-// Where a cell is known, from the cell `at` on, its byte stands in place of what came.
-pub fn overlay(ring: &[u8], bits: &[u64], at: usize, part: &mut [u8])
-    requires cells { at + length part.old ≤ length ring.now }
-    requires words { length bits.now * 64 ≡ length ring.now }
-    ensures { Overlaid (cell ring.now bits.now) at (length part.old) part.old part.new }
-{
-    let mut done = 0;
-    while done < part.len() {
-        done += bits::run(bits, at + done, part.len() - done, false);
-        let n = bits::run(bits, at + done, part.len() - done, true);
-        part[done..done + n].copy_from_slice(&ring[at + done..at + done + n]);
-        done += n;
+impl Ring {
+    ghost use Rattle.window.specs.Cells.{cells};
+
+    // A ring of 2^power cells, of which none is known.
+    pub fn new(heap: Global, power: u32) -> Result<Ring, AllocError>
+        requires least { 10 ≤ power }
+        requires most { power ≤ 16 }
+        ensures size { IfOk result (λ r. vec_len r.bytes ≡ 2 ^ power) }
+        ensures known { IfOk result (λ r. (c : ℕ) → cells r c ≡ None) }
+    {
+        let len = 1usize << power;
+        Ok(Ring {
+            bytes: vec![in heap; 0; len]?,
+            known: Bitmap::new(heap, len / 64)?,
+        })
     }
-}
 
-// Are two slices of one length the same? All bytes are looked at, so that it runs over many at a time.
-fn same(a: &[u8], b: &[u8]) -> bool
-    requires { length a.now ≡ length b.now }
-    ensures { Decides result ((k : ℕ) → k < length a.now → slice_index a.now k ≡ slice_index b.now k) }
-{
-    let mut differing = 0;
-    for k in 0..a.len() {
-        differing |= a[k] ^ b[k];
+    pub fn len(&self) -> usize
+        ensures value { result ≡ vec_len self.now.bytes }
+        ensures least { 1024 ≤ result }
+        ensures most { result ≤ 65536 }
+    {
+        self.bytes.len()
     }
-    differing == 0
-}
 
-// Would `overlay` leave a part as it is?
-pub fn agrees(ring: &[u8], bits: &[u64], at: usize, part: &[u8]) -> bool
-    requires cells { at + length part.now ≤ length ring.now }
-    requires words { length bits.now * 64 ≡ length ring.now }
-    ensures { Decides result (Agrees (cell ring.now bits.now) at (length part.now) part.now) }
-{
-    let mut done = 0;
-    while done < part.len() {
-        done += bits::run(bits, at + done, part.len() - done, false);
-        let n = bits::run(bits, at + done, part.len() - done, true);
-        if !same(&part[done..done + n], &ring[at + done..at + done + n]) {
-            return false;
+    // The cell of a place.
+    fn cell(&self, place: u64) -> usize
+        ensures { result ≡ place % vec_len self.now.bytes }
+    {
+        (place & (self.bytes.len() as u64 - 1)) as usize
+    }
+
+    // The byte of a place, if it is known.
+    pub fn get(&self, place: u64) -> Option<u8>
+        ensures { result ≡ cells self.now (place % vec_len self.now.bytes) }
+    {
+        let cell = self.cell(place);
+        if self.known.is_set(cell) {
+            Some(self.bytes[cell])
+        } else {
+            None
         }
-        done += n;
     }
-    true
+
+    // Where the cells of `len` places from a place on begin, and how many of them come up to the ring's end. The others begin at its start.
+    pub fn locate(&self, place: u64, len: usize) -> (usize, usize)
+        ensures at { result.0 ≡ place % vec_len self.now.bytes }
+        ensures first { result.1 ≡ min len (vec_len self.now.bytes - result.0) }
+    {
+        let at = self.cell(place);
+        (at, len.min(self.bytes.len() - at))
+    }
+
+    // Where a cell is known, from the cell `at` on, its byte stands in place of what came.
+    pub fn overlay(&self, at: usize, part: &mut [u8])
+        requires { at + length part.old ≤ vec_len self.now.bytes }
+        ensures { part.new ≡ overlay (cells self.now) at part.old }
+    {
+        for (start, end) in self.known.set_runs(at, part.len()) {
+            part[start - at..end - at].copy_from_slice(&self.bytes[start..end]);
+        }
+    }
+
+    // Would `overlay` leave a part as it is?
+    pub fn agrees(&self, at: usize, part: &[u8]) -> bool
+        requires { at + length part.now ≤ vec_len self.now.bytes }
+        ensures { Decides result (overlay (cells self.now) at part.now ≡ part.now) }
+    {
+        for (start, end) in self.known.set_runs(at, part.len()) {
+            if part[start - at..end - at] != self.bytes[start..end] {
+                return false;
+            }
+        }
+        true
+    }
+
+    // The first bytes of a part as `overlay` would leave them, as many as lie in one slice: of the part, or of the ring.
+    pub fn overlaid_front<'a>(&'a self, at: usize, part: &'a [u8]) -> &'a [u8]
+        requires { at + length part.now ≤ vec_len self.now.bytes }
+        ensures { Front (cells self.now) at part.now result.now }
+    {
+        let n = self.known.run(at, part.len(), false);
+        if n > 0 {
+            return &part[..n];
+        }
+        self.known_from(at, part.len())
+    }
+
+    // The bytes of the cells from `at` on that are known without a gap, at most `count`.
+    pub fn known_from(&self, at: usize, count: usize) -> &[u8]
+        requires { at + count ≤ vec_len self.now.bytes }
+        ensures { result.now ≡ onwards count at (cells self.now) }
+    {
+        &self.bytes[at..at + self.known.run(at, count, true)]
+    }
+
+    // Is none of `count` cells from `at` on known?
+    pub fn none_known(&self, at: usize, count: usize) -> bool
+        requires { at + count ≤ vec_len self.now.bytes }
+        ensures { result ≡ none_known count at (cells self.now) }
+    {
+        self.known.none(at, count)
+    }
+
+    // The cells from `at` on become known with the bytes of a part.
+    pub fn learn(&mut self, at: usize, part: &[u8])
+        requires { at + length part.now ≤ vec_len self.old.bytes }
+        ensures known { (c : ℕ) → cells self.new c ≡ (if inside at (length part.now) c then Some (slice_index part.now (c - at)) else cells self.old c) }
+        ensures size { vec_len self.new.bytes ≡ vec_len self.old.bytes }
+    {
+        self.bytes[at..at + part.len()].copy_from_slice(part);
+        self.known.put(at, part.len(), true);
+    }
+
+    // `count` cells from `at` on are forgotten.
+    pub fn forget(&mut self, at: usize, count: usize)
+        requires { at + count ≤ vec_len self.old.bytes }
+        ensures known { (c : ℕ) → cells self.new c ≡ (if inside at count c then None else cells self.old c) }
+        ensures size { vec_len self.new.bytes ≡ vec_len self.old.bytes }
+    {
+        self.known.put(at, count, false);
+    }
 }
