@@ -14,6 +14,7 @@ use packet::edit::Edit;
 use packet::rewrite::rewrite;
 use packet::segment::Segment;
 use sequence::{Place, number_of, place_of};
+use std::ops::Range;
 
 // Is the place above a limit?
 fn is_above(place: Place, limit: u64) -> bool
@@ -32,11 +33,11 @@ impl Connection {
         quiet: u32,
         segment: &Segment,
         packet: &mut [u8],
-    ) -> (usize, usize)
+    ) -> Range<usize>
         requires { Reads packet.old (Ok segment.now) }
-        ensures left { Left packet.old packet.new (Pass result.0 result.1) }
+        ensures left { Left packet.old packet.new (Pass result.start result.end) }
         ensures acknowledges { (c : Config) (k : Key) (m : Model) → c.quiet ≡ quiet → nonempty c.words ≡ true → m.stream.shut ≡ false → Held c m self.old →
-            Acknowledges c k m (view packet.old) packet.new self.new result.0 result.1 }
+            Acknowledges c k m (view packet.old) packet.new self.new result.start result.end }
     {
         let len = packet.len();
         let place = place_of(self.first, self.stream.marks().low, segment.acknowledged);
@@ -44,7 +45,7 @@ impl Connection {
         self.stream.acknowledge(place);
         self.left = quiet;
         if !is_above(place, limit) {
-            return (0, len);
+            return 0..len;
         }
         let mut edit = Edit::none(segment, len);
         edit.acknowledged = number_of(self.first, limit);

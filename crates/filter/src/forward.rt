@@ -100,8 +100,11 @@ impl Connection {
                 if segment.marks.ack {
                     self.last_ack = segment.acknowledged;
                 }
-                let (start, end) = rewrite(packet, edit, patch);
-                Verdict::Pass { start, end }
+                let out = rewrite(packet, edit, patch);
+                Verdict::Pass {
+                    start: out.start,
+                    end: out.end,
+                }
             }
         }
     }

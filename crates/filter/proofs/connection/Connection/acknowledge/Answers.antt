@@ -42,8 +42,8 @@ returns c =
     let sg = c.args.segment.now in
     let rd = c.requires in
     let mv = c.rewrite.ensures.rest in
-    let e0 : c.rewrite.result.0 ≡ 0 = omega (arith, mv.from, c.none-edit.ensures.start, rd.1.payload) in
-    let e1 : c.rewrite.result.1 ≡ length old = mv.to ∙ c.none-edit.ensures.end in
+    let e0 : c.rewrite.result.start ≡ 0 = omega (arith, mv.from, c.none-edit.ensures.start, rd.1.payload) in
+    let e1 : c.rewrite.result.end ≡ length old = mv.to ∙ c.none-edit.ensures.end in
     record {
       left = (
         omega arith,
@@ -64,7 +64,7 @@ returns c =
           let payload : between c.none-edit.result.start c.none-edit.result.end old ≡ (packet old).payload =
           ap (λ j. between c.none-edit.result.start j old) k0.end ∙ between_to_end old c.none-edit.result.start (length old) (omega arith)
           ∙ ap (λ i. drop i old) (k0.start ∙ rd.1.payload) in
-          let out : between c.rewrite.result.0 c.rewrite.result.1 c.rewrite.new.packet ≡ lowered m (packet old) (acked_at m (packet old)) =
+          let out : between c.rewrite.result.start c.rewrite.result.end c.rewrite.new.packet ≡ lowered m (packet old) (acked_at m (packet old)) =
           c.rewrite.ensures.out old rd.0 refl
           ∙ ap (λ x. rewrite (packet old) x c.number_of.result c.none-edit.result.marks (between c.none-edit.result.start c.none-edit.result.end old)) (k0.number ∙ rd.1.number)
           ∙ ap (λ x. rewrite (packet old) (packet old).number x c.none-edit.result.marks (between c.none-edit.result.start c.none-edit.result.end old)) (c.number_of.ensures ∙ ap (λ f. number_of f limit) h.first)

@@ -7,8 +7,8 @@ use Rattle.filter.proofs.ForwardLaws.{differs_model, edit_within, err_left, hand
 use Rattle.filter.proofs.connection.Connection.forward.Goals as goal
 use Rattle.filter.proofs.connection.Connection.forward.Goals.{then-segment, else-segment}
 
-pub rewrite-start-requires : goal.rewrite-start-requires
-rewrite-start-requires c =
+pub rewrite-out-requires : goal.rewrite-out-requires
+rewrite-out-requires c =
     let old = c.args.packet.now in
     let sg = c.args.segment.now in
     let rest = c.take-taken.new.payload in
@@ -52,7 +52,7 @@ returns-after-segment c =
     let least : 40 ≤ sg.payload = omega (arith, rd.1.payload, rd.2.words) in
     record {
       left = pass_left old rest sg.payload l n v.first sg refl c.take-taken.result c.take-taken.ensures.left least rd.1.payload c.in-Ok.edit c.in-Ok.ensures
-          c.rewrite-start.new.packet c.rewrite-start.result.0 c.rewrite-start.result.1 c.rewrite-start.ensures.rest;
+          c.rewrite-out.new.packet c.rewrite-out.result.start c.rewrite-out.result.end c.rewrite-out.ensures.rest;
       handles = λ cf k m eq ne tb h.
           let ea = c.place_of-at.ensures.within (rw c.marks.ensures (low_fits cf m v h ne)) ∙ ap (λ x. place_of v.first x.low sg.number) c.marks.ensures in
           let took = c.take-taken.ensures.took cf.words h.before ne tb h.stands in
@@ -61,8 +61,8 @@ returns-after-segment c =
           c.take-taken.ensures.left c.in-Ok.edit c.in-Ok.ensures c.then-patch.result c.then-patch.ensures.variant
           (IfSome_then c.then-patch.result c.then-patch.ensures.some (λ p made. search rules)) l n in
           handles_pass cf m v h old sg c.place_of-at.result ne rd ea c.take-taken.new.self rest c.take-taken.result c.take-taken.ensures.width took
-          k _ c.rewrite-start.new.packet c.rewrite-start.result.0 c.rewrite-start.result.1 c.in-Ok.edit c.if-segment.self c.take-taken.auto.payload
-          (c.rewrite-start.ensures.out old rd.0 over) (part_new old rest sg.payload l n)
+          k _ c.rewrite-out.new.packet c.rewrite-out.result.start c.rewrite-out.result.end c.in-Ok.edit c.if-segment.self c.take-taken.auto.payload
+          (c.rewrite-out.ensures.out old rd.0 over) (part_new old rest sg.payload l n)
           (elim c.if-segment.branch [ then-segment w ↦ ap (λ x. x.stream) w.self-is | else-segment w ↦ ap (λ x. x.stream) w.self-is ])
           (elim c.if-segment.branch [ then-segment w ↦ ap (λ x. x.first) w.self-is | else-segment w ↦ ap (λ x. x.first) w.self-is ])
           (elim c.if-segment.branch [ then-segment w ↦ ap (λ x. x.opening) w.self-is | else-segment w ↦ ap (λ x. x.opening) w.self-is ])
