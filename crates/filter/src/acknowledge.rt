@@ -47,7 +47,6 @@ impl Connection {
         }
         let mut edit = Edit::none(segment, len);
         edit.acknowledged = number_of(self.first, limit);
-        let (start, end) = rewrite(packet, edit, None);
-        start..end
+        rewrite(packet, edit, None)
     }
 }

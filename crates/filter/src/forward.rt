@@ -91,7 +91,6 @@ impl Connection {
         if segment.marks.ack {
             self.last_ack = segment.acknowledged;
         }
-        let (start, end) = rewrite(packet, edit, patch);
-        Ok(start..end)
+        Ok(rewrite(packet, edit, patch))
     }
 }

@@ -45,8 +45,8 @@ fn passes(packet: &mut [u8], number: u32, start: usize, end: usize) -> Result<()
         end,
         ..Edit::none(&segment, packet.len())
     };
-    let (at, to) = rewrite(packet, edit, None);
-    let back = read(&packet[at..to])?;
+    let out = rewrite(packet, edit, None);
+    let back = read(&packet[out])?;
     if back.number != number {
         let is = back.number;
         return Err(Fail::new(format_args!("number {is} in place of {number}")));
@@ -94,7 +94,7 @@ fn overwrites_a_part(rt: HostRuntime) -> Result<(), Fail> {
     };
     let patch = Patch::before(&packet, 43, 44);
     packet[43] = b'!';
-    let (start, end) = rewrite(&mut packet, edit, Some(patch));
-    assert!(rt; start == 1 && end == 45 && read(&packet[1..45]).is_ok());
+    let out = rewrite(&mut packet, edit, Some(patch));
+    assert!(rt; out.start == 1 && out.end == 45 && read(&packet[out]).is_ok());
     Ok(())
 }

@@ -37,15 +37,15 @@ returns c =
     let old = c.args.packet.now in
     let sg = c.args.segment.now in
     let rd = c.requires in
-    let mv = c.rewrite-start.ensures.rest in
-    let e0 : c.rewrite-start.result.0 ≡ 0 = omega (arith, mv.from, c.none-edit.ensures.start, rd.1.payload) in
-    let e1 : c.rewrite-start.result.1 ≡ length old = mv.to ∙ c.none-edit.ensures.end in
+    let mv = c.rewrite.ensures.rest in
+    let e0 : c.rewrite.result.start ≡ 0 = omega (arith, mv.from, c.none-edit.ensures.start, rd.1.payload) in
+    let e1 : c.rewrite.result.end ≡ length old = mv.to ∙ c.none-edit.ensures.end in
     record {
       left = (
         omega arith,
         omega arith,
         rw e0 refl,
-        rw e1 (drop_all (length old) c.rewrite-start.new.packet (omega (arith, mv.long)) ∙ sym (drop_all (length old) old (omega arith))),
+        rw e1 (drop_all (length old) c.rewrite.new.packet (omega (arith, mv.long)) ∙ sym (drop_all (length old) old (omega arith))),
       );
       acknowledges = λ cf k m eq ne up h.
           let v = c.args.self.now in
@@ -58,8 +58,8 @@ returns c =
           let payload : between c.none-edit.result.start c.none-edit.result.end old ≡ (packet old).payload =
           ap (λ j. between c.none-edit.result.start j old) k0.end ∙ between_to_end old c.none-edit.result.start (length old) (omega arith)
           ∙ ap (λ i. drop i old) (k0.start ∙ rd.1.payload) in
-          let out : between c.rewrite-start.result.0 c.rewrite-start.result.1 c.rewrite-start.new.packet ≡ lowered m (packet old) (acked_at m (packet old)) =
-          c.rewrite-start.ensures.out old rd.0 refl
+          let out : between c.rewrite.result.start c.rewrite.result.end c.rewrite.new.packet ≡ lowered m (packet old) (acked_at m (packet old)) =
+          c.rewrite.ensures.out old rd.0 refl
           ∙ ap (λ x. rewrite (packet old) x c.number_of.result c.none-edit.result.marks (between c.none-edit.result.start c.none-edit.result.end old)) (k0.number ∙ rd.1.number)
           ∙ ap (λ x. rewrite (packet old) (packet old).number x c.none-edit.result.marks (between c.none-edit.result.start c.none-edit.result.end old)) (c.number_of.ensures ∙ ap (λ f. number_of f limit) h.first)
           ∙ ap (λ x. rewrite (packet old) (packet old).number (number_of m.first limit) x (between c.none-edit.result.start c.none-edit.result.end old)) (k0.marks ∙ rd.1.marks)

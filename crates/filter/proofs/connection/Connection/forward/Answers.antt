@@ -7,8 +7,8 @@ use Rattle.filter.proofs.ForwardLaws.{differs_model, edit_within, err_left, hand
 use Rattle.filter.proofs.connection.Connection.forward.Goals as goal
 use Rattle.filter.proofs.connection.Connection.forward.Goals.{then-segment, else-segment}
 
-pub rewrite-start-requires : goal.rewrite-start-requires
-rewrite-start-requires c =
+pub rewrite-requires : goal.rewrite-requires
+rewrite-requires c =
     let old = c.args.packet.now in
     let sg = c.args.segment.now in
     let rest = c.take.new.payload in
@@ -73,7 +73,7 @@ returns c =
     let passed = c.in_ok-passed.passed in
     record {
       left = pass_left old rest sg.payload l n v.first sg refl passed taken.left least rd.1.payload c.in_ok-edit.edit ed
-          c.rewrite-start.new.packet c.rewrite-start.result.0 c.rewrite-start.result.1 c.rewrite-start.ensures.rest;
+          c.rewrite.new.packet c.rewrite.result.start c.rewrite.result.end c.rewrite.ensures.rest;
       handles = λ cf k m eq ne tb h.
           let took = taken.took cf.words h.before ne tb h.stands in
           let over = patched cf m v h old sg c.place-at.result ne rd (c.place-at.ensures cf m ne h) c.take.new.self rest (Ok passed) c.take.ensures.width took passed refl taken.left
@@ -81,8 +81,8 @@ returns c =
           c.then-patch.result c.then-patch.ensures.variant
           (IfSome_then c.then-patch.result c.then-patch.ensures.some (λ p made. search rules)) l n in
           handles_pass cf m v h old sg c.place-at.result ne rd (c.place-at.ensures cf m ne h) c.take.new.self rest (Ok passed) c.take.ensures.width took
-          k _ c.rewrite-start.new.packet c.rewrite-start.result.0 c.rewrite-start.result.1 c.in_ok-edit.edit c.if-segment.self c.take.auto.payload
-          (c.rewrite-start.ensures.out old rd.0 over) (part_new old rest sg.payload l n)
+          k _ c.rewrite.new.packet c.rewrite.result.start c.rewrite.result.end c.in_ok-edit.edit c.if-segment.self c.take.auto.payload
+          (c.rewrite.ensures.out old rd.0 over) (part_new old rest sg.payload l n)
           (elim c.if-segment.branch [ then-segment w ↦ ap (λ x. x.stream) w.self-is | else-segment w ↦ ap (λ x. x.stream) w.self-is ])
           (elim c.if-segment.branch [ then-segment w ↦ ap (λ x. x.first) w.self-is | else-segment w ↦ ap (λ x. x.first) w.self-is ])
           (elim c.if-segment.branch [ then-segment w ↦ ap (λ x. x.opening) w.self-is | else-segment w ↦ ap (λ x. x.opening) w.self-is ])
