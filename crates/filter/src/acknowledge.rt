@@ -45,8 +45,10 @@ impl Connection {
         if !is_above(place, limit) {
             return 0..len;
         }
-        let mut edit = Edit::none(segment, len);
-        edit.acknowledged = number_of(self.first, limit);
+        let edit = Edit {
+            acknowledged: number_of(self.first, limit),
+            ..Edit::none(segment, len)
+        };
         rewrite(packet, edit, None)
     }
 }

@@ -45,21 +45,25 @@ fn edit_left(
     ensures { result ≡ edit_left first segment.now passed }
 {
     let start = segment.payload;
-    let mut edit = Edit::none(segment, len);
+    let came = Edit::none(segment, len);
     let Some(passed) = passed else {
         if !segment.marks.ack {
             return Err(Refusal::Empty);
         }
-        edit.marks = marks_left(segment.marks.raw, None);
-        edit.end = start;
-        return Ok(edit);
+        return Ok(Edit {
+            marks: marks_left(segment.marks.raw, None),
+            end: start,
+            ..came
+        });
     };
     let byte = (passed.start < passed.end).then_some(passed.place);
-    edit.marks = marks_left(segment.marks.raw, passed.fin);
-    edit.number = number_left(first, segment.number, byte, passed.fin);
-    edit.start = start + passed.start;
-    edit.end = start + passed.end;
-    Ok(edit)
+    Ok(Edit {
+        number: number_left(first, segment.number, byte, passed.fin),
+        marks: marks_left(segment.marks.raw, passed.fin),
+        start: start + passed.start,
+        end: start + passed.end,
+        ..came
+    })
 }
 
 impl Connection {

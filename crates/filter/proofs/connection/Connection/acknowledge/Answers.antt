@@ -38,8 +38,8 @@ returns c =
     let sg = c.args.segment.now in
     let rd = c.requires in
     let mv = c.rewrite.ensures.rest in
-    let e0 : c.rewrite.result.start ≡ 0 = omega (arith, mv.from, c.none-edit.ensures.start, rd.1.payload) in
-    let e1 : c.rewrite.result.end ≡ length old = mv.to ∙ c.none-edit.ensures.end in
+    let e0 : c.rewrite.result.start ≡ 0 = omega (arith, mv.from, c.none.ensures.start, rd.1.payload) in
+    let e1 : c.rewrite.result.end ≡ length old = mv.to ∙ c.none.ensures.end in
     record {
       left = (
         omega arith,
@@ -54,15 +54,15 @@ returns c =
           c.place-place.ensures cf m ne h ∙ ap (place_of m.first m.stream.low) rd.1.acknowledged in
           let el = of_model cf m v h (λ (s : Stream). limit ≡ ack_limit s) (c.ack_limit-limit.ensures cf.words h.before ne h.stands) in
           let yes : above (acked_at m (packet old)) limit ≡ true = sym (ap (λ p. above p limit) ep) ∙ sym c.is_above.ensures ∙ c.if-not-is_above.false in
-          let k0 = c.none-edit.ensures in
-          let payload : between c.none-edit.result.start c.none-edit.result.end old ≡ (packet old).payload =
-          ap (λ j. between c.none-edit.result.start j old) k0.end ∙ between_to_end old c.none-edit.result.start (length old) (omega arith)
+          let k0 = c.none.ensures in
+          let payload : between c.none.result.start c.none.result.end old ≡ (packet old).payload =
+          ap (λ j. between c.none.result.start j old) k0.end ∙ between_to_end old c.none.result.start (length old) (omega arith)
           ∙ ap (λ i. drop i old) (k0.start ∙ rd.1.payload) in
           let out : between c.rewrite.result.start c.rewrite.result.end c.rewrite.new.packet ≡ lowered m (packet old) (acked_at m (packet old)) =
           c.rewrite.ensures.out old rd.0 refl
-          ∙ ap (λ x. rewrite (packet old) x c.number_of.result c.none-edit.result.marks (between c.none-edit.result.start c.none-edit.result.end old)) (k0.number ∙ rd.1.number)
-          ∙ ap (λ x. rewrite (packet old) (packet old).number x c.none-edit.result.marks (between c.none-edit.result.start c.none-edit.result.end old)) (c.number_of.ensures ∙ ap (λ f. number_of f limit) h.first)
-          ∙ ap (λ x. rewrite (packet old) (packet old).number (number_of m.first limit) x (between c.none-edit.result.start c.none-edit.result.end old)) (k0.marks ∙ rd.1.marks)
+          ∙ ap (λ x. rewrite (packet old) x c.number_of.result c.none.result.marks (between c.none.result.start c.none.result.end old)) (k0.number ∙ rd.1.number)
+          ∙ ap (λ x. rewrite (packet old) (packet old).number x c.none.result.marks (between c.none.result.start c.none.result.end old)) (c.number_of.ensures ∙ ap (λ f. number_of f limit) h.first)
+          ∙ ap (λ x. rewrite (packet old) (packet old).number (number_of m.first limit) x (between c.none.result.start c.none.result.end old)) (k0.marks ∙ rd.1.marks)
           ∙ ap (rewrite (packet old) (packet old).number (number_of m.first limit) (packet old).marks) payload
           ∙ sym (is_lowered m old (acked_at m (packet old)) limit el yes) in (
             active cf.quiet (acknowledged_to (acked_at m (packet old)) m.stream) m,
