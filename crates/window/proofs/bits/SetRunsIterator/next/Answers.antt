@@ -1,4 +1,4 @@
-use Rattle.std.proofs.Common.{◌≡◌, ◌+◌, refl}
+use Rattle.std.proofs.Common.{refl}
 use Rattle.window.proofs.BitLaws.{no_run, set_run}
 use Rattle.window.proofs.bits.SetRunsIterator.next.Goals as goal
 
