@@ -1,12 +1,13 @@
 -- Streams that begin, and what a receiver acknowledges.
 -- Assumes nothing.
-use Rattle.std.proofs.Common.{◌≡◌, ℕ, zero, suc, ◌<◌, ◌≤◌, min, max, false, List, [], ◌∷◌, length, get_or, Some, None, refl, ap, ◌∙◌, inl, inr, arith}
+use Rattle.std.proofs.Common.{◌≡◌, ℕ, zero, suc, ◌<◌, ◌≤◌, min, max, false, List, [], ◌∷◌, length, get_or, Some, None, sym, refl, ap, ◌∙◌, subst, inl, inr, arith}
 use Rattle.std.specs.List.{slice_get}
 use Rattle.std.proofs.lemmas.Bool.{cases_lt}
 use Rattle.automaton.specs.States as automaton
 use Rattle.automaton.specs.Text.{Text}
 use Rattle.sequence.specs.Places.{Place, Below, At}
 use Rattle.window.specs.Known.{forget}
+use Rattle.window.specs.Shows.{Shows}
 use Rattle.window.specs.Window.{knows, width}
 use Rattle.window.proofs.PieceLaws.{none-some}
 use Rattle.window.proofs.ShowLaws.{shows_none, window_serves}
@@ -44,7 +45,7 @@ module _ (ws : List Text) (s : Stream) (v v' : Value) (h : Shown ws s v) (p : Pl
         state = ap (λ m. m.state) em ∙ h.state;
         shut = ap (λ m. m.shut) em ∙ h.shut;
         window = el ∙ omega (arith, en, h.window);
-        shows = rw ew (record { shown = λ i. ek i ∙ ap (λ m. forget m (knows v.window) i) en ∙ g.shown i; beyond = g.beyond });
+        shows = subst (λ (w : ℕ). Shows n w s.known (knows v'.window)) (sym ew) (record { shown = λ i. ek i ∙ ap (λ m. forget m (knows v.window) i) en ∙ g.shown i; beyond = g.beyond });
       }
 
 pub acked_shown : (ws : List Text) (s : Stream) (v v' : Value) → Shown ws s v → (p : Place) →

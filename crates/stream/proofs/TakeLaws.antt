@@ -228,7 +228,7 @@ module _ (ws : List Text) (s : Stream) (v : Value) (a : Segment) (r : Part) (h :
       state = ap (λ m. m.state) em ∙ l.2;
       shut = ap (λ m. m.shut) em ∙ h.shut ∙ e;
       window = el ∙ h.window;
-      shows = rw ew (record { shown = λ i. ekn i ∙ learned.shown i; beyond = learned.beyond });
+      shows = subst (λ (w : ℕ). Shows s.low w (taken W (piece_of a) kept s).known (knows v'.window)) (sym ew) (record { shown = λ i. ekn i ∙ learned.shown i; beyond = learned.beyond });
     }
 
   pub shut_shown : (v' : Value) → v'.window ≡ v.window → v'.marks ≡ record { low = v.marks.low; end = v.marks.end; fin = v.marks.fin; state = v.marks.state; shut = true } →
