@@ -32,10 +32,10 @@ impl Stream {
             Place::At(i) => (i, 0),
             Place::Below(n) => (0, (n as usize).min(len)),
         };
-        let (start, end) = self.window.cut(first, len - skip, self.limit());
+        let inside = self.window.cut(first, len - skip, self.limit());
         Part {
-            start: skip + start,
-            end: skip + end,
+            start: skip + inside.start,
+            end: skip + inside.end,
             place: first.max(self.window.low()),
         }
     }

@@ -8,7 +8,7 @@ use Rattle.std.proofs.lemmas.Bool.Decides.{same_from_decides, Decides-eqb, Decid
 use Rattle.std.proofs.lemmas.Slice.Eq.{slice_eq-Decides}
 use lib.Pointwise.{pointwise}
 use Rattle.window.specs.Known.{Known, inside, byte_or, none_known, on_byte, onwards, overlay}
-use Rattle.window.specs.Ring.{Agrees, Alike, Front, Overlaid, bit, cell}
+use Rattle.window.specs.Ring.{Agrees, Alike, Front, Overlaid, SetRun, bit, cell}
 use Rattle.window.proofs.KnownLaws.{front_is, get_or-overlay, inside_cases, none_known_decides, onwards_is, overlay_is}
 
 module _ (bytes words : List ℕ) (k : ℕ) where
@@ -107,9 +107,8 @@ pub cell_forgotten : (bytes words words' : List ℕ) (at count c : ℕ) → bit 
 unfolding cell
 cell_forgotten bytes words words' at count c bits = elim (inside_cases at count c) [ inl t ↦ rw (bits, t.0) | inr t ↦ rw (bits, t.0) ]
 
--- the first bytes of some that came are overlaid, up to the cell `next`; the cells up to `start` are not known, and those up to `stop` are
-module _ (bytes words : List ℕ) (at next start stop : ℕ) (ordered : (at ≤ next) × (next ≤ start) × (start < stop))
-    (clear : (k : ℕ) → next ≤ k → k < start → bit words k ≡ false) (set : (k : ℕ) → start ≤ k → k < stop → bit words k ≡ true) where
+-- the first bytes of some that came are overlaid, up to the cell `next`; the next cells that are known are those from `start` up to `stop`
+module _ (bytes words : List ℕ) (at next end start stop : ℕ) (from : at ≤ next) (run : SetRun words next end start stop) where
   pub overlaid_turn : (came xs zs : List ℕ) → Overlaid (cell bytes words) at (next - at) came xs
       → ((k : ℕ) → (k < start - at) ⊎ (stop - at ≤ k) → get_or zs k 0 ≡ get_or xs k 0)
       → ((k : ℕ) → start - at ≤ k → k < stop - at → get_or zs k 0 ≡ get_or bytes (at + k) 0)
@@ -118,9 +117,9 @@ module _ (bytes words : List ℕ) (at next start stop : ℕ) (ordered : (at ≤ 
     done = λ k h. elim (cases_lt k (start - at)) [
       | inl l ↦ other k (inl l) ∙ elim (cases_lt k (next - at)) [
         | inl m ↦ so.done k m
-        | inr m ↦ rw (cell_clear bytes words (at + k) (clear (at + k) (omega arith) (omega arith))) (so.rest k m)
+        | inr m ↦ rw (cell_clear bytes words (at + k) (run.clear (at + k) (omega arith) (omega arith))) (so.rest k m)
       ]
-      | inr l ↦ rw (cell_set bytes words (at + k) (set (at + k) (omega arith) (omega arith))) (here k l h)
+      | inr l ↦ rw (cell_set bytes words (at + k) (run.set (at + k) (omega arith) (omega arith))) (here k l h)
     ];
     rest = λ k h. other k (inr h) ∙ so.rest k (omega arith);
   }
@@ -131,9 +130,9 @@ module _ (bytes words : List ℕ) (at next start stop : ℕ) (ordered : (at ≤ 
   agrees_turn part so here k h = elim (cases_lt k (start - at)) [
     | inl l ↦ elim (cases_lt k (next - at)) [
       | inl m ↦ so k m
-      | inr m ↦ rw (cell_clear bytes words (at + k) (clear (at + k) (omega arith) (omega arith)))
+      | inr m ↦ rw (cell_clear bytes words (at + k) (run.clear (at + k) (omega arith) (omega arith)))
     ]
-    | inr l ↦ rw (cell_set bytes words (at + k) (set (at + k) (omega arith) (omega arith))) (sym (here k l h))
+    | inr l ↦ rw (cell_set bytes words (at + k) (run.set (at + k) (omega arith) (omega arith))) (sym (here k l h))
   ]
 
 -- up to the end no further cell is known

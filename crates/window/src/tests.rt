@@ -4,9 +4,10 @@ use std::test::Fail;
 
 // Cuts a piece to what lies inside the window and before `end`, and takes what is left of it in. Where it starts and stops.
 fn take_in(window: &mut Window, place: u64, piece: &mut [u8], end: u64) -> (usize, usize) {
-    let (start, stop) = window.cut(place, piece.len(), end);
+    let cut = window.cut(place, piece.len(), end);
+    let (start, stop) = (cut.start, cut.end);
     let at = place + start as u64;
-    let part = &mut piece[start..stop];
+    let part = &mut piece[cut];
     window.overlay(at, part);
     window.learn(at, part);
     (start, stop)

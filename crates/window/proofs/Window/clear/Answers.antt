@@ -1,8 +1,7 @@
-use Rattle.std.proofs.Common.{◌≡◌, ◌%◌, ◌<◌, ◌∙◌, inl, inr, arith}
+use Rattle.std.proofs.Common.{◌%◌, ◌<◌, ◌∙◌, inl, inr, arith}
 use Rattle.std.proofs.lemmas.Nat.{mod_below}
 use Rattle.window.specs.Cells.{cells}
-use Rattle.window.specs.Known.{inside}
-use Rattle.window.specs.Window.{knows, width}
+use Rattle.window.specs.Window.{width}
 use Rattle.window.specs.declared.Window.{Window}
 use Rattle.window.proofs.KnownLaws.{inside_cases, inside_from}
 use Rattle.window.proofs.RingLaws.{seen-inside}

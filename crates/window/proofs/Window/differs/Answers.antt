@@ -1,7 +1,7 @@
 use Rattle.std.proofs.Common.{length}
 use Rattle.std.proofs.lemmas.List.{take_rest}
 use Rattle.window.specs.Cells.{cells}
-use Rattle.window.specs.Window.{knows, width}
+use Rattle.window.specs.Window.{width}
 use Rattle.window.proofs.RingLaws.{differs_first, differs_rest}
 use Rattle.window.proofs.WindowLaws.{knows_is, window_runs}
 use Rattle.window.proofs.Window.differs.Goals as goal

@@ -1,4 +1,4 @@
-use Rattle.std.proofs.Common.{◌≡◌, ◌+◌, ◌-◌, [], false, length, sym, ◌∙◌, ap, arith}
+use Rattle.std.proofs.Common.{◌≡◌, ◌-◌, false, sym, arith}
 use Rattle.std.proofs.lemmas.List.{append-nil}
 use Rattle.window.specs.Cells.{cells}
 use Rattle.window.specs.Known.{inside}

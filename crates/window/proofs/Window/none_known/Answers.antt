@@ -1,7 +1,7 @@
 use Rattle.std.proofs.Common.{◌≡◌, ◌+◌, ◌-◌, Bool, ◌&&◌, sym, ap, ◌∙◌, arith}
 use Rattle.window.specs.Cells.{cells}
 use Rattle.window.specs.Known.{none_known}
-use Rattle.window.specs.Window.{knows, width}
+use Rattle.window.specs.Window.{width}
 use Rattle.window.proofs.RingLaws.{none_runs}
 use Rattle.window.proofs.WindowLaws.{knows_is, window_runs}
 use Rattle.window.proofs.Window.none_known.Goals as goal

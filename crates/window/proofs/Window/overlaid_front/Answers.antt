@@ -1,6 +1,6 @@
 use Rattle.std.proofs.Common.{length}
 use Rattle.window.specs.Cells.{cells}
-use Rattle.window.specs.Window.{knows, width}
+use Rattle.window.specs.Window.{width}
 use Rattle.window.proofs.RingLaws.{front_runs}
 use Rattle.window.proofs.WindowLaws.{knows_is, window_runs}
 use Rattle.window.proofs.Window.overlaid_front.Goals as goal

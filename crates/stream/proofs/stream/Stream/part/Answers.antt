@@ -12,5 +12,5 @@ returns c =
       | in-Below w ↦ rw (w.first-is, w.in-Below.is, w.min.ensures) (starts_below w.in-Below.n c.args.len)
     ] in
     part_of code.window.low (width code.window) code.marks.fin c.args.at c.args.len c.limit.result c.match-at.first.0 c.match-at.first.1
-    c.cut-start.result.0 c.cut-start.result.1 c.max.result c.limit.ensures es c.cut-start.ensures.part c.cut-start.ensures.within
+    c.cut-inside.result.start c.cut-inside.result.end c.max.result c.limit.ensures es c.cut-inside.ensures.part c.cut-inside.ensures.within
     (c.max.ensures ∙ ap (max c.match-at.first.0) c.low.ensures)

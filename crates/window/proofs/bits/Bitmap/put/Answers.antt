@@ -1,7 +1,6 @@
-use Rattle.std.proofs.Common.{◌≡◌, ℕ, ◌+◌, ◌-◌, ◌*◌, ◌^◌, ◌<◌, Bool, true, false, cond, ◌&&◌, eqb, ltb, leb, length, get_or, set, vec_len, ap, ◌∙◌, arith}
+use Rattle.std.proofs.Common.{◌≡◌, ◌+◌, ◌-◌, ◌*◌, ◌^◌, ◌<◌, ◌&&◌, ltb, leb, get_or, vec_len, arith}
 use lib.Bits.{bit_and, bit_or}
 use Rattle.std.proofs.lemmas.List.{get_or_read_under}
-use Rattle.window.specs.Ring.{digit}
 use Rattle.window.proofs.BitLaws.{masked_set, masked_clear, put_more}
 use Rattle.window.proofs.bits.Bitmap.put.Goals as goal
 use Rattle.window.proofs.bits.Bitmap.put.Goals.{then-value, else-value}

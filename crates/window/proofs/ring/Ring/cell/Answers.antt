@@ -1,4 +1,3 @@
-use Rattle.std.proofs.Common.{◌≡◌, arith}
 use Rattle.std.proofs.Math.Logic.{∥∥₁_elim}
 use Rattle.std.proofs.lemmas.Nat.{and_mask}
 use Rattle.std.specs.Coded.{Coded-set, coded_ℕ}

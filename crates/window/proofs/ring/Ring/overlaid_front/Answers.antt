@@ -1,4 +1,4 @@
-use Rattle.std.proofs.Common.{◌≡◌, ◌+◌, length, Some, None, true, ◌∙◌, sym, arith}
+use Rattle.std.proofs.Common.{◌≡◌, ◌+◌, true, arith}
 use Rattle.window.specs.Ring.{bit, cell}
 use Rattle.window.proofs.CellLaws.{cell_set, unknown_front, onwards_front}
 use Rattle.window.proofs.ring.Ring.overlaid_front.Goals as goal
