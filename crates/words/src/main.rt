@@ -1,7 +1,7 @@
 // Prints the table of a word list.
 #![tactic(auto)]
 
-use automaton::{ListError, ListFault, ListRefusal, Table, WordList};
+use automaton::{ListFault, ListRefusal, Table, WordList};
 use std::alloc::{AllocError, Global};
 use std::io::Read;
 use std::process::ExitCode;
@@ -25,33 +25,7 @@ twice. K counts from 0.
 ";
 
 // Why nothing, or no more, is printed.
-#[derive(Drop)]
-enum Stop {
-    Usage,
-    Fault(ListFault),
-    Failed(io::Error),
-}
-
-impl From<io::Error> for Stop {
-    fn from(e: io::Error) -> Stop {
-        Stop::Failed(e)
-    }
-}
-
-impl From<AllocError> for Stop {
-    fn from(e: AllocError) -> Stop {
-        Stop::Failed(io::Error::from(e))
-    }
-}
-
-impl From<ListError> for Stop {
-    fn from(e: ListError) -> Stop {
-        match e {
-            ListError::Memory => Stop::from(AllocError),
-            ListError::Fault(fault) => Stop::Fault(fault),
-        }
-    }
-}
+type Stop = fault::Stop<ListRefusal>;
 
 // The list on standard input, with nothing behind it.
 fn read_list(rt: &HostRuntime) -> Result<WordList, Stop> {
