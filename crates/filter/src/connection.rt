@@ -23,6 +23,7 @@ pub struct Connection {
     pub(crate) stream: Stream,
 }
 
+// As with a stream, what came before is no function of the fields: the clauses speak of every model that they stand for.
 impl Connection {
     // The place near low for which a number stands.
     pub(crate) fn place(&self, number: u32) -> Place

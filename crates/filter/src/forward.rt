@@ -66,6 +66,7 @@ fn edit_left(
     })
 }
 
+// A segment and its packet stay apart: the packet is overwritten, and what was read of it holds no longer.
 impl Connection {
     // A segment of the sender's comes: what is left of it goes on. Answers which part of the buffer goes out.
     pub(crate) fn forward(

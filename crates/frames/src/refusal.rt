@@ -8,6 +8,7 @@ use automaton::ListRefusal;
 use fault::{Numbered, ReadError};
 use filter::NoSuchSide;
 
+// Those of a list stand here again: within a variant of their own, a cut item would be a cut list.
 #[derive(Clone, Copy, PartialEq, Eq, Debug)]
 pub enum Refusal {
     // the bytes end within the item: more of them may mend it

@@ -87,6 +87,7 @@ fn pass<R: Read>(rt: &HostRuntime, source: &mut R) -> Result<(), Stop> {
     Err(Stop::from(io::Error::from(io::ErrorKind::Other)))
 }
 
+// `run` and `main` stand in each program: a library's function needs a contract that pins what it does, and none can pin what is printed.
 fn run(rt: &HostRuntime) -> Result<(), Stop> {
     let mut args = env::args(rt)?;
     args.next();

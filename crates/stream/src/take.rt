@@ -19,6 +19,7 @@ use sequence::Place;
 use std::alloc::Global;
 use window::{Window, WindowError};
 
+// What came before is no function of the fields, since no text is kept: so no Model can show it, and the clauses speak of every history that they stand for.
 impl Stream {
     // Each known byte stands in place of what came, and all bytes of the part are known.
     fn write(&mut self, place: u64, part: &mut [u8])

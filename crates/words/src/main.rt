@@ -150,6 +150,7 @@ fn print_table(rt: &HostRuntime, list: &WordList) -> Result<(), Stop> {
     Ok(())
 }
 
+// `run` and `main` stand in each program: a library's function needs a contract that pins what it does, and none can pin what is printed.
 fn run(rt: &HostRuntime) -> Result<(), Stop> {
     let mut args = env::args(rt)?;
     args.next();
