@@ -10,6 +10,7 @@ use std::alloc::{AllocError, Global};
 // Place p has cell p mod the number of cells.
 #[derive(Drop)]
 pub struct Ring {
+    // not one `Vec<Option<u8>>`: two bytes a cell, none lent as a slice, and a run of 1,460 known cells is found in 490 ns, not 58
     bytes: Vec<u8>,
     known: Bitmap,
     ghost bits: { vec_len known.words * 64 ≡ vec_len bytes },
@@ -39,6 +40,7 @@ impl Ring {
         ensures value { result ≡ vec_len self.now.bytes }
         ensures least { 1024 ≤ result }
         ensures most { result ≤ 65536 }
+        ensures round { ∥ IsPowerOfTwo result ∥₁ }
     {
         self.bytes.len()
     }
@@ -55,6 +57,7 @@ impl Ring {
         ensures { result ≡ cells self.now (place % vec_len self.now.bytes) }
     {
         let cell = self.cell(place);
+        // not `then`: what its closure gives is not found by the search
         if self.known.is_set(cell) {
             Some(self.bytes[cell])
         } else {
