@@ -87,7 +87,7 @@ impl Connection {
         let patch = self
             .stream
             .differs(at, &packet[start..])
-            .then(|| Patch::before(packet, start, len));
+            .then(|| Patch::before(packet, start..len));
         let passed = self
             .stream
             .take(table, at, &mut packet[start..], segment.marks.fin)?;

@@ -1,10 +1,12 @@
 -- What the tests of reading say of a packet. Assumes nothing.
-use Rattle.std.proofs.Common.{◌≡◌, ℕ, ◌-◌, ◌/◌, ◌%◌, ◌≤◌, true, false, not, ◌&&◌, ◌||◌, eqb, leb, length, Some, None, Ok, Err, Result, sym, refl, ◌∙◌, inl, inr, arith}
-use Rattle.std.proofs.lemmas.Bool.{cases_Bool, cond_both, cond-false, cond-true, and_from, and_parts, and_right, or_from, or_parts, eq-eqb, eqb-true, le-leb, le-ltb, leb-true, not-false, not_from_true}
+use Rattle.std.proofs.Common.{◌≡◌, ℕ, ◌-◌, ◌/◌, ◌%◌, ◌≤◌, true, false, not, ◌&&◌, ◌||◌, eqb, leb, cond, length, Some, None, MatchOption, ok_or, Option, Ok, Err, Result, sym, refl, ◌∙◌, inl, inr, arith}
+use Rattle.std.proofs.lemmas.Bool.{cases_Bool, cond_both, cond-false, cond-true, and_from, and_parts, and_right, or_from, or_parts, eq-eqb, eqb-true, le-leb, le-ltb, leb-true, not-false, not_from_false, not_from_true}
 use Rattle.std.proofs.lemmas.Bool.Decides.{nat_tests}
 use Rattle.packet.specs.Bytes.{Bytes, byte, read16}
 use Rattle.packet.specs.Packet.{Packet, packet, head_length, good_header, tcp, segment, too_long, wrong_sum, right_header_sum, right_segment_sum, read}
-use Rattle.packet.specs.Reads.{payload_start}
+use Rattle.packet.specs.Reads.{Reads, Shows, payload_start}
+use Rattle.packet.specs.declared.segment.Refusal.TheVariants.{NotSegment}
+use Rattle.packet.specs.declared.segment.Segment.{Segment}
 
 -- the headers fit
 pub record Fits (p : Bytes) : Type 0 where
@@ -127,6 +129,18 @@ pub read_fits : (p : Bytes) (q : Packet) → read p ≡ Ok q → Fits p
 read_fits p q e =
     let s = (read_right p q e).starts in
     record { least = omega (arith, s.words); within = s.fits }
+
+-- past the tests of the header and of the sums, only the segment decides
+pub past_tests : (p : Bytes) → good_header p ≡ true → too_long p ≡ false → wrong_sum p ≡ false → read p ≡ cond (not (segment p)) (Err 4) (Ok (packet p))
+unfolding read
+past_tests p g l w = grind (arith, nat_tests)
+
+pub by_segment : (p : Bytes) (o : Option Segment) → good_header p ≡ true → too_long p ≡ false → wrong_sum p ≡ false → length p ≤ 65535 →
+    MatchOption o (segment p ≡ false) (λ s. (segment p ≡ true) × Shows (packet p) s) → Reads p (ok_or o NotSegment)
+by_segment p None g l w m f = past_tests p g l w ∙ cond-true (not (segment p)) (Err 4) (Ok (packet p)) (not_from_false _ f)
+by_segment p (Some s) g l w m q =
+    let st = starts p q.0 in
+    (past_tests p g l w ∙ cond-false (not (segment p)) (Err 4) (Ok (packet p)) (not_from_true _ q.0), q.1, record { words = st.words; fits = st.fits; most = m })
 
 -- and what passes every test reads
 pub right_reads : (p : Bytes) → Right p → read p ≡ Ok (packet p)

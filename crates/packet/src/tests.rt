@@ -92,7 +92,7 @@ fn overwrites_a_part(rt: HostRuntime) -> Result<(), Fail> {
         start: 41,
         ..Edit::none(&segment, 45)
     };
-    let patch = Patch::before(&packet, 43, 44);
+    let patch = Patch::before(&packet, 43..44);
     packet[43] = b'!';
     let out = rewrite(&mut packet, edit, Some(patch));
     assert!(rt; out.start == 1 && out.end == 45 && read(&packet[out]).is_ok());
