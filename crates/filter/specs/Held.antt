@@ -44,18 +44,18 @@ pub record Held (c : Config) (m : Connection) (v : Value) : Type 0 where
   pub stands : Stands c.words before v.stream
 
 -- the part of the lent buffer that goes out, or why none does
-abbrev pub Answer : Type 0
-Answer = Result (Range ℕ) Dropped
+abbrev pub Forwarded : Type 0
+Forwarded = Result (Range ℕ) Dropped
 
 -- a segment of the sender's is handled as decided, where these bytes are left in the lent buffer
-abbrev pub Handles : Config → Key → Connection → Packet → Bytes → Value → Answer → Type 0
+abbrev pub Handles : Config → Key → Connection → Packet → Bytes → Value → Forwarded → Type 0
 Handles c k m p bytes v (Ok out) = (m' : Connection) × (on_segment c k m p ≡ Update k m' Looms (between out.start out.end bytes)) × Held c m' v
 Handles c k m p bytes v (Err (dropped.Refused why)) = (on_segment c k m p ≡ Refuse (refusal_number why)) × Held c m v
 Handles c k m p bytes v (Err (dropped.Word w)) =
     (on_segment c k m p ≡ Shut k (closed m) (reset_to_loom k m) (reset_to_sender k m) (record { place = w.place; word = slice_index_or c.words w.word [] })) × Held c (closed m) v
 
 -- what is left in the lent buffer: outside the part that goes out it is as it came
-abbrev pub Left : Bytes → Bytes → Answer → Type 0
+abbrev pub Left : Bytes → Bytes → Forwarded → Type 0
 Left came bytes (Ok out) = (out.start ≤ out.end) × (out.end ≤ length came) × (take out.start bytes ≡ take out.start came) × (drop out.end bytes ≡ drop out.end came)
 Left came bytes (Err why) = bytes ≡ came
 
