@@ -194,9 +194,6 @@ module _ (old rest : Bytes) (start : ℕ) (l : start ≤ length old) (n : length
 
 -- a value that stands for what the gate holds of a stream
 module _ (c : Config) (m : Connection) (v : Value) (h : Held c m v) where
-  width_is : width v.stream.window ≡ c.width
-  width_is = h.wide
-
   pub shown : Shown c.words m.stream v.stream
   shown = subst (λ (t : Stream). Shown c.words t v.stream) (ap (λ w. run w c.words blank h.before) h.wide ∙ sym h.history) h.stands
 

@@ -71,9 +71,6 @@ module _ (bs more : Bytes) where
   pub byte_on : (i : ℕ) → i < length bs → byte i (bs ++ more) ≡ byte i bs
   byte_on i l = get_or_append_left bs more 0 i l
 
-  long_on : length (bs ++ more) ≡ length bs + length more
-  long_on = length-append bs more
-
   read16_on : (i : ℕ) → i + 1 < length bs → read16 i (bs ++ more) ≡ read16 i bs
   read16_on i l = let a = byte_on i (omega arith) in let b = byte_on (i + 1) l in omega arith
 

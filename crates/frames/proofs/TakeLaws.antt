@@ -1,7 +1,6 @@
 -- What was read from a part of the buffer stands in the buffer. Assumes nothing.
-use Rattle.std.proofs.Common.{◌≡◌, ℕ, ◌+◌, ◌-◌, ◌<◌, ◌≤◌, ◌++◌, length, take, drop, IfOk, Ok, Err, vec_items, Result, sym, ap, ◌∙◌, subst, arith}
+use Rattle.std.proofs.Common.{◌≡◌, ℕ, ◌+◌, ◌-◌, ◌<◌, ◌≤◌, ◌++◌, length, take, drop, Ok, vec_items, sym, ap, ◌∙◌, subst, arith}
 use Rattle.std.specs.Vec.{with_items}
-use Rattle.std.specs.Io.{ReadsAtMost}
 use Rattle.std.proofs.lemmas.List.{length-drop, length-take-le, with_items_is}
 use Rattle.packet.specs.Bytes.{Bytes}
 use Rattle.filter.specs.Verdict.{Comes}
@@ -93,7 +92,3 @@ module _ (v : Input) (ds ws : Bytes) (lent : ds ≡ vec_items v.buffer) (long : 
 
   pub filled_long : (n : ℕ) → v.end + n ≤ length ds → length (take n (drop v.end ws)) ≡ n
   filled_long n l = let d = length-drop v.end ws in length-take-le n (drop v.end ws) (omega arith)
-
-pub count_made : {E : Type 0} (r : Result ℕ E) (ys : Bytes) (e l : ℕ) → ReadsAtMost r ys → e ≤ l → length ys ≡ l - e → IfOk r (λ n. e + n ≤ l)
-count_made (Ok n) ys e l h w m = omega (arith, h.0)
-count_made (Err x) ys e l h w m = tt
