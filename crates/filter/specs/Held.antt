@@ -4,6 +4,7 @@ use Rattle.std.specs.declared.ops.Range.{Range}
 use Rattle.std.specs.List.{between}
 use Rattle.packet.specs.Bytes.{Bytes}
 use Rattle.packet.specs.Packet.{Packet}
+use Rattle.packet.specs.Reads as reads
 use Rattle.sequence.specs.declared.Place.{Place}
 use Rattle.sequence.specs.declared.Place.TheVariants.{At, Below}
 use Rattle.window.specs.Window.{width}
@@ -23,9 +24,7 @@ use Rattle.filter.specs.declared.verdict.Dropped.TheVariants as dropped
 
 -- the number of each refusal
 abbrev pub refusal_number : Refusal → ℕ
-refusal_number refusal.BadHeader = 2
-refusal_number refusal.WrongSum = 3
-refusal_number refusal.NotSegment = 4
+refusal_number (refusal.Unread why) = reads.refusal_number why
 refusal_number refusal.NotBegun = 5
 refusal_number refusal.TooMany = 6
 refusal_number refusal.OpensWithBytes = 7

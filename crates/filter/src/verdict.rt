@@ -2,14 +2,14 @@
 ghost use Rattle.std.specs.Prelude.{◌≡◌};
 ghost use Rattle.filter.specs.Dropped.{dropped_for};
 ghost use Rattle.filter.specs.declared.verdict.Dropped.TheVariants.{Refused};
+ghost use Rattle.filter.specs.declared.verdict.Refusal.TheVariants as refusal;
 
 use stream::WordAt;
 
 #[derive(Clone, Copy, PartialEq, Eq, Debug)]
 pub enum Refusal {
-    BadHeader,
-    WrongSum,
-    NotSegment,
+    // it cannot be read
+    Unread(packet::segment::Refusal),
     // no such stream has begun
     NotBegun,
     // 256 streams are held
@@ -27,6 +27,14 @@ pub enum Dropped {
     Refused(Refusal),
     // this word would stand in the text: not passed on, and the stream is shut
     Word(WordAt),
+}
+
+impl From<packet::segment::Refusal> for Refusal {
+    ghost from_gives = { λ why r. r ≡ refusal.Unread why };
+
+    fn from(why: packet::segment::Refusal) -> Refusal {
+        Refusal::Unread(why)
+    }
 }
 
 impl From<Refusal> for Dropped {

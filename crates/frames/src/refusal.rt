@@ -50,7 +50,7 @@ impl From<NoSuchSide> for Refusal {
     ghost from_gives = { λ _ refusal. refusal ≡ Bad };
 
     fn from(_e: NoSuchSide) -> Refusal {
-        Refusal::Bad
+        Self::Bad
     }
 }
 
