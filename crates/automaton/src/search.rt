@@ -11,6 +11,7 @@ use crate::scan::{Match, scan};
 use crate::table::{States, Table};
 use std::alloc::{AllocError, Global};
 
+// A table does not hold its words, so no ghost field can name them: the clauses speak of every list that it is right for.
 impl Table {
     // The table of a word list. Only memory can be wanting.
     pub fn build(heap: Global, list: &WordList) -> Result<Table, AllocError>
