@@ -2,7 +2,7 @@
 -- Assumes nothing.
 use Rattle.std.proofs.Common.{◌≡◌, ℕ, zero, suc, ◌+◌, ◌*◌, ◌<◌, ◌≤◌, true, false, ◌||◌, List, [], ◌∷◌, ◌++◌, length, get_or, take, drop, set, replicate, Some, None, vec_items, Option, Vec, sym, refl, ap, ◌∙◌, inl, inr, append_assoc, add-one, arith}
 use Rattle.std.proofs.lemmas.Bool.{or_parts, or_right, or_left, or_from, cond-true, cond-false, cases_Bool, cases_eq, cases_lt, cond_both}
-use Rattle.std.proofs.lemmas.List.{append-nil, length-map, get_or-map, take_more, take_all, length-replicate, get_or-replicate, get_or_past, get_or-set_same, get_or-set_other, length-set, length-take-le, length_push, length-append, take-append-drop}
+use Rattle.std.proofs.lemmas.List.{append-nil, length-map, get_or-map, take_more, take_all, length-replicate, get_or-replicate, get_or_past, get_or-set_same, get_or-set_other, length-set, length_push, length-append, take-append-drop}
 use Rattle.std.specs.declared.alloc.Global.{Global}
 use Rattle.automaton.specs.Words.{words_of}
 use Rattle.automaton.specs.Lists.{total}
@@ -167,10 +167,12 @@ ended seen ws w s rows tells r h l here =
       ];
     }
 
-pub putting_all : (ws : List Text) (w : Text) (s : ℕ) (rows : List ℕ) (tells : List (Option ℕ)) → Putting ws w (length w) s rows tells →
-    (tells' : List (Option ℕ)) → tells' ≡ set tells s (or_else (get_or tells s None) (Some (length ws))) → TrieOf (ws ++ (w ∷ [])) rows tells'
-putting_all ws w s rows tells p tells' et =
-    rw (et, ← sofar_all ws w)
+-- at the end of a word its number is written down, unless one stands there
+pub putting_all : (ws : List Text) (w : Text) (j s : ℕ) (rows : List ℕ) (tells : List (Option ℕ)) → Putting ws w j s rows tells → j ≡ length w →
+    (tells' : List (Option ℕ)) (n : ℕ) → length ws ≡ n → tells' ≡ set tells s (or_else (get_or tells s None) (Some n)) → TrieOf (ws ++ (w ∷ [])) rows tells'
+putting_all ws w j s rows tells q ej tells' n en et =
+    let p : Putting ws w (length w) s rows tells = rw ej at q in
+    rw (et, ← en, ← sofar_all ws w)
     (ended (sofar ws w (length w)) ws w s rows tells p.rooted p.trie p.within (p.here ∙ take_all (length w) w (omega arith)))
 
 pub word_at_lem : (vs : List (Vec ℕ Global)) (i : ℕ) (v : Vec ℕ Global) → i < length vs → v ≡ get_or vs i v → get_or (words_of vs) i [] ≡ vec_items v
@@ -182,15 +184,6 @@ pub words_more : (vs : List (Vec ℕ Global)) (i : ℕ) (v : Vec ℕ Global) (w 
 words_more vs i v w l e ew =
     take_more (words_of vs) i [] (omega (arith, length-map vs vec_items))
     ∙ ap (λ t. take i (words_of vs) ++ (t ∷ [])) (word_at_lem vs i v l e ∙ sym ew)
-
--- at the end of a word its number is written down, unless one stands there
-pub put_all : (vs : List (Vec ℕ Global)) (i : ℕ) (v : Vec ℕ Global) (w : Text) (j s : ℕ) (rows : List ℕ) (tells tells' : List (Option ℕ)) →
-    i < length vs → v ≡ get_or vs i v → w ≡ vec_items v → Putting (take i (words_of vs)) w j s rows tells → j ≡ length w →
-    tells' ≡ set tells s (or_else (get_or tells s None) (Some i)) → TrieOf (take (i + 1) (words_of vs)) rows tells'
-put_all vs i v w j s rows tells tells' l e ew p ej et =
-    rw (words_more vs i v w l e ew)
-    (putting_all (take i (words_of vs)) w s rows tells (rw ej at p) tells'
-    (et ∙ ap (λ n. set tells s (or_else (get_or tells s None) (Some n))) (sym (length-take-le i (words_of vs) (omega (arith, length-map vs vec_items))))))
 
 -- a table with the empty beginning alone
 pub trie_none : (rows : List ℕ) → rows ≡ replicate 256 0 → (tells : List (Option ℕ)) → tells ≡ None ∷ [] → TrieOf [] rows tells
@@ -221,16 +214,11 @@ sofar_rest ws w j =
     ∙ ap (add_all (states ws)) (sym (take_all (length w) (inits w) (omega (arith, length-inits w)))) ∙ sofar_all ws w in
     omega (arith, length-add_all (drop j (inits w)) (add_all (states ws) (take j (inits w))), ap length e)
 
-pub put_full : (vs : List (Vec ℕ Global)) (i : ℕ) (v : Vec ℕ Global) (w : Text) (j s : ℕ) (rows : List ℕ) (tells : List (Option ℕ)) (m : ℕ) →
-    i < length vs → v ≡ get_or vs i v → w ≡ vec_items v → Putting (take i (words_of vs)) w j s rows tells → j < length w → get_or w j 0 < 256 →
-    m ≤ length tells → get_or rows (s * 256 + get_or w j 0) 0 ≡ 0 → m < length (states (take (i + 1) (words_of vs)))
-put_full vs i v w j s rows tells m l e ew p lj lb lm z =
-    rw (words_more vs i v w l e ew)
-    (omega (arith, sofar_rest ws w (j + 1), ap length (sofar_more ws w j lj), length-add_new seen (take j w ++ (get_or w j 0 ∷ [])) none, p.trie.tells_len))
+pub put_full : (ws : List Text) (w : Text) (j s : ℕ) (rows : List ℕ) (tells : List (Option ℕ)) (m : ℕ) → Putting ws w j s rows tells → j < length w → get_or w j 0 < 256 →
+    m ≤ length tells → get_or rows (s * 256 + get_or w j 0) 0 ≡ 0 → m < length (states (ws ++ (w ∷ [])))
+put_full ws w j s rows tells m p lj lb lm z =
+    omega (arith, sofar_rest ws w (j + 1), ap length (sofar_more ws w j lj), length-add_new seen (take j w ++ (get_or w j 0 ∷ [])) none, p.trie.tells_len)
   where
-    ws : List Text
-    ws = take i (words_of vs)
-
     seen : List Text
     seen = sofar ws w j
 

@@ -1,5 +1,5 @@
 -- A table that holds only the words' own beginnings: what one byte more of a word does to it. Assumes nothing.
-use Rattle.std.specs.Prelude.{◌≡◌, ℕ, ◌+◌, ◌*◌, ◌<◌, cond, List, [], ◌∷◌, ◌++◌, length, replicate, Some, None, Option, ◌==◌, slice_index, slice_index_or, slice_set}
+use Rattle.std.specs.Prelude.{◌≡◌, ℕ, ◌+◌, ◌*◌, ◌<◌, ◌≤◌, cond, List, [], ◌∷◌, ◌++◌, length, replicate, Some, None, Option, ◌==◌, slice_index, slice_index_or, slice_set}
 use Rattle.automaton.specs.Text.{Text, member}
 use Rattle.automaton.specs.States.{place, states}
 
@@ -35,3 +35,10 @@ pub record Trie (seen ws : List Text) (rows : List ℕ) (tells : List (Option �
 -- the table holds the beginnings of all the words
 abbrev pub TrieOf : List Text → List ℕ → List (Option ℕ) → Type 0
 TrieOf ws rows tells = Trie (states ws) ws rows tells
+
+-- the table holds some n words, and there is room for one more
+pub record Holds (n : ℕ) (w : Text) (rows : List ℕ) (tells : List (Option ℕ)) : Type 0 where
+  pub words : List Text
+  pub many : length words ≡ n
+  pub trie : TrieOf words rows tells
+  pub fits : length (states (words ++ (w ∷ []))) ≤ 4097

@@ -3,6 +3,8 @@ ghost use Rattle.std.specs.Prelude.{◌≡◌, ℕ, ◌<◌, ◌≤◌, true, []
 ghost use Rattle.automaton.specs.Lists.{distinct, total};
 ghost use Rattle.automaton.specs.Words.{words_of};
 
+pub(crate) const LONGEST_WORD: usize = 64;
+
 // Up to 128 words of 1 to 64 bytes, 4,096 together, none twice.
 #[derive(Drop)]
 pub struct WordList {

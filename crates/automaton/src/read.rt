@@ -5,13 +5,11 @@ ghost use Rattle.automaton.specs.ReadList.{Reads, texts};
 ghost use Rattle.automaton.specs.Text.{member};
 ghost use Rattle.automaton.specs.Words.{words_of};
 
-use crate::list::WordList;
+use crate::list::{LONGEST_WORD, WordList};
 use crate::refusal::{ListError, ListFault, ListRefusal};
 use std::alloc::Global;
 
 const MOST_WORDS: usize = 128;
-
-const LONGEST_WORD: usize = 64;
 
 const MOST_BYTES: usize = 4096;
 

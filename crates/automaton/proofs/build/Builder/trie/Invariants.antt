@@ -3,5 +3,5 @@ use Rattle.automaton.specs.Trie.{TrieOf}
 use Rattle.automaton.specs.Words.{words_of}
 use Rattle.automaton.proofs.build.Builder.trie.Given as goal
 
-abbrev pub invariant-loop-i : goal.invariant-loop-i
-invariant-loop-i l = TrieOf (take l.i (words_of l.words)) (vec_items l.builder.rows) (vec_items l.builder.tells)
+abbrev pub invariant-loop-number : goal.invariant-loop-number
+invariant-loop-number l = TrieOf (take l.number (words_of l.words)) (vec_items l.builder.rows) (vec_items l.builder.tells)
