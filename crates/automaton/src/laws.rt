@@ -4,92 +4,66 @@ ghost use Rattle.automaton.specs.LookLaw.{LastWordLaw, LookLaw};
 ghost use Rattle.automaton.specs.Promise.{Examples, GoesToLongest, RunRemembers, RunTells, StatesAre, TailEnough, TailTells, TellsLongest};
 
 // The end of the text that a table remembers is enough to go on.
-pub fn tail_enough() -> u8
+pub fn tail_enough()
     ensures { TailEnough }
-{
-    0
-}
+{}
 
 // The remembered end tells when a word has just been completed.
-pub fn tail_tells() -> u8
+pub fn tail_tells()
     ensures { TailTells }
-{
-    0
-}
+{}
 
 // A run of the automaton over a text ends in the state of the remembered end.
-pub fn run_remembers() -> u8
+pub fn run_remembers()
     ensures { RunRemembers }
-{
-    0
-}
+{}
 
 // A word is completed at exactly the places where the state tells of one.
-pub fn run_tells() -> u8
+pub fn run_tells()
     ensures { RunTells }
-{
-    0
-}
+{}
 
 // The states are the empty text and the words' beginnings, each once.
-pub fn states_are() -> u8
+pub fn states_are()
     ensures { StatesAre }
-{
-    0
-}
+{}
 
 // From a state and a byte the automaton goes to the longest end that is a state.
-pub fn goes_to_longest() -> u8
+pub fn goes_to_longest()
     ensures { GoesToLongest }
-{
-    0
-}
+{}
 
 // A state tells of the longest word that its text ends in.
-pub fn tells_longest() -> u8
+pub fn tells_longest()
     ensures { TellsLongest }
-{
-    0
-}
+{}
 
 // Two small automata.
-pub fn examples() -> u8
+pub fn examples()
     ensures { Examples }
-{
-    0
-}
+{}
 
 // A list that was written is read back.
-pub fn reads_back() -> u8
+pub fn reads_back()
     ensures { ReadsBack }
-{
-    0
-}
+{}
 
 // What is read is a valid list, as it is written.
-pub fn reads_valid() -> u8
+pub fn reads_valid()
     ensures { ReadsValid }
-{
-    0
-}
+{}
 
 // More bytes change no answer, but that the list is cut.
-pub fn reads_on() -> u8
+pub fn reads_on()
     ensures { ReadsOn }
-{
-    0
-}
+{}
 
 // The last word of a text is the longest that it ends in.
-pub fn last_word_law() -> u8
+pub fn last_word_law()
     ensures { LastWordLaw }
-{
-    0
-}
+{}
 
 // The look finds a word exactly where one comes to stand in the text, the first of them.
-pub fn look_law() -> u8
+pub fn look_law()
     ensures { LookLaw }
-{
-    0
-}
+{}
