@@ -1,11 +1,13 @@
 -- Reading word lists, one word after the other.
 -- Assumes nothing.
-use Rattle.std.proofs.Common.{◌≡◌, ℕ, suc, ◌+◌, ◌-◌, ◌<◌, ◌≤◌, Bool, true, false, ◌||◌, ltb, List, [], ◌∷◌, ◌++◌, length, get_or, drop, Some, None, Ok, Err, vec_items, Decides, Vec, sym, refl, ap, ◌∙◌, subst, inl, inr, arith, rules}
+use Rattle.std.proofs.Common.{◌≡◌, ℕ, suc, ◌+◌, ◌-◌, ◌<◌, ◌≤◌, Bool, true, false, ◌||◌, eqb, leb, ltb, List, [], ◌∷◌, ◌++◌, length, get_or, take, drop, Some, None, MatchResult, Ok, Err, vec_items, Decides, Result, Vec, sym, refl, ap, ◌∙◌, subst, inl, inr, arith, rules}
 use Rattle.std.specs.declared.alloc.Global.{Global}
-use Rattle.std.proofs.lemmas.Slice.Eq.{compares_Decides}
-use Rattle.std.proofs.lemmas.Bool.Decides.{same_from_decides, Decides-like, nat_tests}
-use Rattle.std.proofs.lemmas.List.{drop_more, drop_all, length-take, length-drop, length-append, get_or_append_left, get_or_push, get_or_read}
+use Rattle.std.proofs.lemmas.Slice.Eq.{compares_Decides, slice_eq-Decides}
+use Rattle.std.proofs.lemmas.Bool.Decides.{same_from_decides, Decides-eqb, Decides-like, nat_tests}
+use Rattle.std.proofs.lemmas.List.{drop-drop, get_or-drop, length-take, length-drop, length-append, take_rest, get_or_append_left, get_or_push, get_or_read}
 use Rattle.std.proofs.lemmas.Bool.{cases_lt, cond-true, lt-ltb}
+use Rattle.std.specs.Cmp.Lexicographic.{pointwise}
+use Rattle.std.specs.List.{list_any}
 use Rattle.automaton.specs.Lists.{Valid, distinct, fault_or, read_words, refusal_at, total, word, word_list}
 use Rattle.fault.specs.declared.Fault.{Fault}
 use Rattle.automaton.specs.declared.refusal.ListRefusal.{ListRefusal}
@@ -17,26 +19,49 @@ pub same_decides : (s t : Text) → Decides (same s t) (s ≡ t)
 unfolding same
 same_decides s t = compares_Decides same (search rules) s t
 
--- the words from i on: the one at i, and those after it
-module _ (t : Text) (vs : List (Vec ℕ Global)) (i : ℕ) (v : Vec ℕ Global) (u : Text) (b : Bool)
-    (l : i < length vs) (e : v ≡ get_or vs i v) (eu : u ≡ vec_items v) (d : Decides b (t ≡ u)) where
-  among-step : member t (words_of (drop i vs)) ≡ (b || member t (words_of (drop (i + 1) vs)))
-  unfolding member
-  among-step =
-      ap (λ ws. member t (words_of ws)) (drop_more vs i v l)
-      ∙ ap (λ w. same t (vec_items w) || member t (words_of (drop (i + 1) vs))) (sym e)
-      ∙ ap (λ w. same t w || member t (words_of (drop (i + 1) vs))) (sym eu)
-      ∙ ap (λ x. x || member t (words_of (drop (i + 1) vs))) (same_from_decides (same t u) b (same_decides t u) d)
+-- a result before its error was made anew
+pub was_ok : {T E : Type 0} (D : Type 0) (r : Result T E) (x : T) → MatchResult r (λ y. ◌≡◌ {A = Result T D} (Ok x) (Ok y)) (λ e. ⊥) → r ≡ Ok x
+was_ok D (Ok y) x m = cc
+was_ok D (Err e) x m = absurd m
 
-  pub among_other : b ≡ false → member t (words_of (drop i vs)) ≡ member t (words_of vs) → member t (words_of (drop (i + 1) vs)) ≡ member t (words_of vs)
-  among_other n h = sym (among-step ∙ ap (λ x. x || member t (words_of (drop (i + 1) vs))) n) ∙ h
+pub was_err : {T E D : Type 0} (r : Result T E) (g : D) (Q : E → Type 0) → MatchResult r (λ y. ◌≡◌ {A = Result T D} (Err g) (Ok y)) Q → (e : E) × (r ≡ Err e) × Q e
+was_err (Ok y) g Q m = absurd (let z : ◌≡◌ {A = ℕ} 0 1 = cc in omega arith)
+was_err (Err e) g Q m = (e, refl, m)
 
-  pub among_here : b ≡ true → member t (words_of (drop i vs)) ≡ member t (words_of vs) → true ≡ member t (words_of vs)
-  among_here n h = sym (among-step ∙ ap (λ x. x || member t (words_of (drop (i + 1) vs))) n) ∙ h
+-- what `==` says of two slices
+pub same_slices : (s t : Text) (b : Bool) → b ≡ pointwise eqb s t → b ≡ same t s
+same_slices s t b e = same_from_decides b (same t s) (slice_eq-Decides Decides-eqb s t b e) (Decides-like (same t s) sym sym (same_decides t s))
 
-pub among_none : (t : Text) (vs : List (Vec ℕ Global)) (i : ℕ) → length vs ≤ i → member t (words_of (drop i vs)) ≡ member t (words_of vs) → false ≡ member t (words_of vs)
+-- one of the words is the text
+pub any_member : (t : Text) (vs : List (Vec ℕ Global)) → list_any (λ v. same t (vec_items v)) vs ≡ member t (words_of vs)
 unfolding member
-among_none t vs i l h = sym (ap (λ ws. member t (words_of ws)) (drop_all i vs l)) ∙ h
+any_member t [] = refl
+any_member t (v ∷ vs) = ap (λ b. same t (vec_items v) || b) (any_member t vs)
+
+-- a word that stands in a part of the bytes, as all of them have it
+module _ (at : ℕ) (bs : List ℕ) where
+  rest : take (length bs - at) (drop at bs) ≡ drop at bs
+  rest = take_rest bs at
+
+  first : get_or (drop at bs) 0 0 ≡ get_or bs at 0
+  first = let e : at + 0 ≡ at = omega arith in get_or-drop at bs 0 0 ∙ ap (λ n. get_or bs n 0) e
+
+  word_drop : word 0 (drop at bs) ≡ word at bs
+  word_drop = ap (λ n. take n (drop 1 (drop at bs))) first ∙ ap (take (get_or bs at 0)) (drop-drop 1 at bs)
+
+  pub word_behind : word 0 (take (length bs - at) (drop at bs)) ≡ word at bs
+  word_behind = ap (word 0) rest ∙ word_drop
+
+  refusal_drop : (ws : List Text) (size : ℕ) → at ≤ length bs → refusal_at ws size 0 (drop at bs) ≡ refusal_at ws size at bs
+  unfolding refusal_at
+  refusal_drop ws size l =
+      let n = length-drop at bs in
+      let a : leb (length (drop at bs)) 0 ≡ leb (length bs) at = grind (arith, nat_tests) in
+      let b : ltb (length (drop at bs)) (0 + 1 + get_or bs at 0) ≡ ltb (length bs) (at + 1 + get_or bs at 0) = grind (arith, nat_tests) in
+      rw (word_drop, first, a, b) refl
+
+  pub refusal_behind : (ws : List Text) (size : ℕ) → at ≤ length bs → refusal_at ws size 0 (take (length bs - at) (drop at bs)) ≡ refusal_at ws size at bs
+  refusal_behind ws size l = ap (refusal_at ws size 0) rest ∙ refusal_drop ws size l
 
 -- a word without a fault
 pub record Fine (ws : List Text) (size at : ℕ) (bs : List ℕ) : Type 0 where

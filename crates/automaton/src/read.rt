@@ -16,54 +16,31 @@ const MOST_BYTES: usize = 4096;
 fn is_among(word: &[u8], words: &[Vec<u8>]) -> bool
     ensures { result ≡ member word.now (words_of words.now) }
 {
-    for earlier in words {
-        if word == earlier.as_slice() {
-            return true;
-        }
-    }
-    false
+    words.iter().any(|earlier| earlier.as_slice() == word)
 }
 
-// The word whose length stands at `at`, behind words of `size` bytes together.
-fn next_word<'a>(
-    bytes: &'a [u8],
-    at: usize,
-    words: &[Vec<u8>],
-    size: usize,
-) -> Result<&'a [u8], ListFault>
-    requires within { at ≤ length bytes.now }
-    requires size { size ≤ 4096 }
+// The word whose length stands first in some bytes, behind words of `size` bytes together.
+fn next_word<'a>(bytes: &'a [u8], words: &[Vec<u8>], size: usize) -> Result<&'a [u8], ListRefusal>
+    requires { size ≤ 4096 }
     ensures { MatchResult result
-        (λ w. (refusal_at (words_of words.now) size at bytes.now ≡ None) × (w.now ≡ word at bytes.now))
-        (λ f. (refusal_at (words_of words.now) size at bytes.now ≡ Some f.refusal) × (f.at ≡ at)) }
+        (λ w. (refusal_at (words_of words.now) size 0 bytes.now ≡ None) × (w.now ≡ word 0 bytes.now))
+        (λ why. refusal_at (words_of words.now) size 0 bytes.now ≡ Some why) }
 {
-    let too_much = ListFault {
-        refusal: ListRefusal::TooMuch,
-        at,
-    };
-    let cut = ListFault {
-        refusal: ListRefusal::Cut,
-        at,
-    };
     if words.len() >= MOST_WORDS {
-        return Err(too_much);
+        return Err(ListRefusal::TooMuch);
     }
-    if at >= bytes.len() {
-        return Err(cut);
-    }
-    let len = usize::from(bytes[at]);
+    let [len, rest @ ..] = bytes else {
+        return Err(ListRefusal::Cut);
+    };
+    let len = usize::from(*len);
     if len == 0 || len > LONGEST_WORD || size + len > MOST_BYTES {
-        return Err(too_much);
+        return Err(ListRefusal::TooMuch);
     }
-    if len > bytes.len() - at - 1 {
-        return Err(cut);
-    }
-    let word = &bytes[at + 1..at + 1 + len];
+    let Some(word) = rest.get(..len) else {
+        return Err(ListRefusal::Cut);
+    };
     if is_among(word, words) {
-        return Err(ListFault {
-            refusal: ListRefusal::Twice,
-            at,
-        });
+        return Err(ListRefusal::Twice);
     }
     Ok(word)
 }
@@ -81,9 +58,13 @@ impl WordList {
         };
         let mut words = Vec::new(heap);
         let mut size = 0;
+        // a place and no rest of the bytes: a fault tells its place, and a rest would have to be turned back into it
         let mut at = 1;
         for _read in 0..usize::from(*count) {
-            let word = next_word(bytes, at, &words, size)?;
+            let word = next_word(&bytes[at..], &words, size).map_err(|refusal| ListFault {
+                refusal,
+                at,
+            })?;
             at += 1 + word.len();
             size += word.len();
             words.push(word.to_vec(heap)?)?;

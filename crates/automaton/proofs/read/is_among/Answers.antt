@@ -1,17 +1,12 @@
-use Rattle.std.proofs.lemmas.Slice.Eq.{slice_eq-Decides}
-use Rattle.automaton.proofs.ReadLaws.{among_other, among_here, among_none}
+use Rattle.std.proofs.Common.{vec_items, ◌∙◌, rules}
+use Rattle.std.proofs.lemmas.Iterator.{YieldsList-from_slice}
+use Rattle.std.proofs.lemmas.Iterator.Search.{any_from_yields_List}
+use Rattle.automaton.specs.Text.{same}
+use Rattle.automaton.proofs.ReadLaws.{any_member, same_slices}
 use Rattle.automaton.proofs.read.is_among.Goals as goal
-use Rattle.std.proofs.lemmas.Bool.Decides.{Decides-eqb}
-
-pub loop-earlier-preserved : goal.loop-earlier-preserved
-loop-earlier-preserved c =
-    among_other c.args.word.now c.args.words.now c.loop-earlier.earlier-index c.earlier-item.result c.as_slice.result.now c.eq.result
-    c.loop-earlier-test.true c.earlier-item.is c.as_slice.ensures.value (slice_eq-Decides Decides-eqb _ _ _ c.eq.ensures) c.if-eq.false c.loop-earlier.invariant
-
-pub returns-then-eq : goal.returns-then-eq
-returns-then-eq c =
-    among_here c.args.word.now c.args.words.now c.loop-earlier.earlier-index c.earlier-item.result c.as_slice.result.now c.eq.result
-    c.loop-earlier-test.true c.earlier-item.is c.as_slice.ensures.value (slice_eq-Decides Decides-eqb _ _ _ c.eq.ensures) c.if-eq.true c.loop-earlier.invariant
 
 pub returns : goal.returns
-returns c = among_none c.args.word.now c.args.words.now c.loop-earlier.earlier-index c.loop-earlier-test.false c.loop-earlier.invariant
+returns c =
+    any_from_yields_List (λ v. same c.args.word.now (vec_items v)) _ _ _ c.any.ensures.ran (YieldsList-from_slice c.args.words.now cc)
+    (λ x b q k. (search rules, same_slices _ _ _ (search rules)))
+    ∙ any_member c.args.word.now c.args.words.now
