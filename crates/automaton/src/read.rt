@@ -79,14 +79,17 @@ impl WordList {
         self.words.len()
     }
 
+    // The words, each at its number.
+    pub fn words(&self) -> &[Vec<u8>]
+        ensures { words_of result.now ≡ texts self.now }
+    {
+        self.words.as_slice()
+    }
+
     // The word of a number.
     pub fn word(&self, number: usize) -> Option<&[u8]>
         ensures { MatchOption result (length (texts self.now) ≤ number) (λ w. (number < length (texts self.now)) × (w.now ≡ slice_index_or (texts self.now) number [])) }
     {
-        if number < self.words.len() {
-            Some(self.words[number].as_slice())
-        } else {
-            None
-        }
+        self.words.get(number).map(|word| word.as_slice())
     }
 }

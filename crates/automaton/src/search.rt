@@ -51,21 +51,13 @@ impl Table {
             (λ row. (length row.now ≡ 256) × ((b : ℕ) → b < 256 → slice_index row.now b ≡ goto ws state b)) }
     {
         let s = usize::from(state);
-        if s >= self.tells.len() {
-            return None;
-        }
-        let rows = self.rows.as_slice();
-        Some(&rows[s * 256..s * 256 + 256])
+        self.rows.get(s * 256..s * 256 + 256)
     }
 
     // The number of the longest word that a state's text ends in.
     pub fn word(&self, state: u16) -> Option<u8>
         ensures { (ws : List Text) → TableOf ws self.now → state < length (states ws) → result ≡ tells_of ws state }
     {
-        let s = usize::from(state);
-        if s >= self.tells.len() {
-            return None;
-        }
-        self.tells[s]
+        *self.tells.get(usize::from(state))?
     }
 }
