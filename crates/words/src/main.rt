@@ -68,19 +68,11 @@ fn read_list(rt: &HostRuntime) -> Result<WordList, Stop> {
     Ok(list)
 }
 
-// The first `len` bytes of the word of a number.
-#[derive(Clone, Copy)]
-struct Beginning {
-    word: usize,
-    len: usize,
-}
-
 // Adds the beginnings of a word that are new states. States are numbered in the order in which they first occur.
-fn add_beginnings(
+fn add_beginnings<'a>(
     table: &Table,
-    word: &[u8],
-    number: usize,
-    seen: &mut Vec<Beginning>,
+    word: &'a [u8],
+    seen: &mut Vec<&'a [u8]>,
 ) -> Result<(), AllocError> {
     let mut state = 0;
     for (i, b) in word.iter().enumerate() {
@@ -92,23 +84,22 @@ fn add_beginnings(
         };
         state = *next;
         if usize::from(state) == seen.len() {
-            seen.push(Beginning {
-                word: number,
-                len: i + 1,
-            })?;
+            seen.push(&word[..=i])?;
         }
     }
     Ok(())
 }
 
 // The text of each state.
-fn beginnings(heap: Global, list: &WordList, table: &Table) -> Result<Vec<Beginning>, AllocError> {
-    let mut seen = Vec::new(heap);
-    seen.push(Beginning { word: 0, len: 0 })?;
-    for number in 0..list.len() {
-        if let Some(word) = list.word(number) {
-            add_beginnings(table, word, number, &mut seen)?;
-        }
+fn beginnings<'a>(
+    heap: Global,
+    list: &'a WordList,
+    table: &Table,
+) -> Result<Vec<&'a [u8]>, AllocError> {
+    let mut seen: Vec<&[u8]> = Vec::new(heap);
+    seen.push(b"")?;
+    for word in list.words() {
+        add_beginnings(table, word, &mut seen)?;
     }
     Ok(seen)
 }
@@ -120,12 +111,11 @@ fn push_hex(line: &mut String, bytes: &[u8]) -> io::Result<()> {
     Ok(())
 }
 
-fn push_text(line: &mut String, list: &WordList, text: Beginning) -> io::Result<()> {
-    let Beginning { word, len } = text;
-    match list.word(word) {
-        Some(bytes) if len > 0 && len <= bytes.len() => push_hex(line, &bytes[0..len]),
-        _ => Ok(line.push('-')?),
+fn push_text(line: &mut String, text: &[u8]) -> io::Result<()> {
+    if text.is_empty() {
+        return Ok(line.push('-')?);
     }
+    push_hex(line, text)
 }
 
 // The bytes that lead elsewhere than to state 0.
@@ -144,15 +134,15 @@ fn push_state(
     list: &WordList,
     table: &Table,
     state: u16,
-    text: Beginning,
+    text: &[u8],
 ) -> io::Result<()> {
     write!(line, "{state} ")?;
-    push_text(line, list, text)?;
-    if let Some(number) = table.word(state) {
-        if let Some(word) = list.word(usize::from(number)) {
-            line.push_str(" word ")?;
-            push_hex(line, word)?;
-        }
+    push_text(line, text)?;
+    if let Some(number) = table.word(state)
+        && let Some(word) = list.word(usize::from(number))
+    {
+        line.push_str(" word ")?;
+        push_hex(line, word)?;
     }
     line.push_str(" :")?;
     if let Some(row) = table.row(state) {
