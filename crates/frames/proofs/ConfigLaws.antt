@@ -1,5 +1,5 @@
 -- Reading the configuration: what the parts of the reader say of the whole. Assumes nothing.
-use Rattle.std.proofs.Common.{◌≡◌, ℕ, ◌+◌, ◌-◌, ◌^◌, ◌<◌, ◌≤◌, length, take, drop, MatchResult, Ok, Err, Result, sym, ap, ◌∙◌, subst, arith}
+use Rattle.std.proofs.Common.{◌≡◌, ℕ, ◌+◌, ◌-◌, ◌^◌, ◌<◌, ◌≤◌, length, take, drop, Ok, Err, Result, sym, ap, ◌∙◌, subst, arith}
 use Rattle.std.proofs.lemmas.List.{length-drop, take_rest}
 use Rattle.automaton.specs.Lists.{ReadList, word_list}
 use Rattle.automaton.specs.ReadList.{Reads}
@@ -26,11 +26,6 @@ taken_within bs r l e =
     let w : r.taken ≤ length (rest bs) = subst (Within (length (rest bs))) e (list_within (rest bs)) in
     let k : length (rest bs) ≡ length bs - 6 = ap length (take_rest bs 6) ∙ length-drop 6 bs in
     omega arith
-
--- what was read before its error was made anew
-pub was_ok : {T E : Type 0} (D : Type 0) (r : Result T E) (x : T) → MatchResult r (λ y. ◌≡◌ {A = Result T D} (Ok x) (Ok y)) (λ e. ⊥) → r ≡ Ok x
-was_ok D (Ok y) x m = cc
-was_ok D (Err e) x m = absurd m
 
 -- the fault of a list is that of the whole, behind the header
 same_fault : (f : Fault ListRefusal) (g : Fault Refusal) → g.refusal ≡ refusal_of f.refusal → g.at ≡ 6 + f.at → fault_of f ≡ g

@@ -1,5 +1,6 @@
 use Rattle.std.proofs.Common.{sym, ◌∙◌, arith}
-use Rattle.frames.proofs.ConfigLaws.{config_is, taken_within, reads_behind, was_ok}
+use Rattle.automaton.proofs.ReadLaws.{was_ok}
+use Rattle.frames.proofs.ConfigLaws.{config_is, taken_within, reads_behind}
 use Rattle.frames.proofs.config.Config.read.Goals as goal
 
 pub returns-in-Err : goal.returns-in-Err
