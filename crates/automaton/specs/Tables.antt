@@ -6,4 +6,4 @@ use Rattle.automaton.specs.declared.table.Table.{Table}
 
 -- the table is that of these words
 abbrev pub TableOf : List Text → Table → Type 0
-TableOf ws table = Right ws (vec_items table.rows) (vec_items table.tells)
+TableOf ws table = Right ws (vec_items table.states.rows) (vec_items table.states.tells)

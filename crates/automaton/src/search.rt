@@ -6,10 +6,9 @@ ghost use Rattle.automaton.specs.States.{goto, run, states, tells_of};
 ghost use Rattle.automaton.specs.Tables.{TableOf};
 ghost use Rattle.automaton.specs.Text.{Text};
 
-use crate::build::Builder;
 use crate::list::WordList;
 use crate::scan::{Match, scan};
-use crate::table::Table;
+use crate::table::{States, Table};
 use std::alloc::{AllocError, Global};
 
 impl Table {
@@ -18,10 +17,9 @@ impl Table {
         ensures { IfOk result (TableOf (texts list.now)) }
     {
         let words = list.words.as_slice();
-        let mut builder = Builder::trie(heap, words)?;
-        builder.link(heap, words)?;
-        let Builder { rows, tells } = builder;
-        Ok(Table { rows, tells })
+        let mut states = States::trie(heap, words)?;
+        states.link(heap, words)?;
+        Ok(Table { states })
     }
 
     // Looks at some bytes after a text that led to a state, one after the other, up to the first that completes a word; the state after them where none does.
@@ -30,19 +28,19 @@ impl Table {
         ensures among { Among (length bytes.now) result }
         ensures finds { (ws : List Text) (t : Text) → TableOf ws self.now → state ≡ run ws 0 t → Judged ws t bytes.now result }
     {
-        let start = if usize::from(state) < self.tells.len() {
+        let start = if usize::from(state) < self.states.tells.len() {
             state
         } else {
             0
         };
-        scan(&self.rows, &self.tells, start, bytes)
+        scan(&self.states.rows, &self.states.tells, start, bytes)
     }
 
     // How many states there are.
     pub fn states(&self) -> usize
         ensures { (ws : List Text) → TableOf ws self.now → result ≡ length (states ws) }
     {
-        self.tells.len()
+        self.states.tells.len()
     }
 
     // Where a state goes at each byte; nothing where there is no such state.
@@ -51,13 +49,13 @@ impl Table {
             (λ row. (length row.now ≡ 256) × ((b : ℕ) → b < 256 → slice_index row.now b ≡ goto ws state b)) }
     {
         let s = usize::from(state);
-        self.rows.get(s * 256..s * 256 + 256)
+        self.states.rows.get(s * 256..s * 256 + 256)
     }
 
     // The number of the longest word that a state's text ends in.
     pub fn word(&self, state: u16) -> Option<u8>
         ensures { (ws : List Text) → TableOf ws self.now → state < length (states ws) → result ≡ tells_of ws state }
     {
-        *self.tells.get(usize::from(state))?
+        *self.states.tells.get(usize::from(state))?
     }
 }

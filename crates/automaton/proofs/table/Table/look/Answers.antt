@@ -9,7 +9,7 @@ scan-requires c =
     rw (c.deref.ensures.value, c.deref-2.ensures.value) (record {
       sound = record { rows_len = table.long; rows_in = table.closed };
       within = elim c.if-from-len.branch [
-        | then-from-len w ↦ omega (arith, w.start-is, w.if-from-len.true, c.from.ensures, c.len.ensures, table.tells.ok.0)
+        | then-from-len w ↦ omega (arith, w.start-is, w.if-from-len.true, c.from.ensures, c.len.ensures, table.states.tells.ok.0)
         | else-from-len w ↦ omega (arith, w.start-is, table.some)
       ];
     })
@@ -19,6 +19,6 @@ returns c = record {
   among = c.scan.ensures.among;
   finds = λ ws t h e. rw (c.deref.ensures.value, c.deref-2.ensures.value) at c.scan.ensures.finds ws t h (elim c.if-from-len.branch [
     | then-from-len w ↦ w.start-is ∙ e
-    | else-from-len w ↦ absurd (omega (arith, state_in ws _ _ c.args.state t h e, w.if-from-len.false, c.from.ensures, c.len.ensures, c.args.self.now.tells.ok.0))
+    | else-from-len w ↦ absurd (omega (arith, state_in ws _ _ c.args.state t h e, w.if-from-len.false, c.from.ensures, c.len.ensures, c.args.self.now.states.tells.ok.0))
   ]);
 }

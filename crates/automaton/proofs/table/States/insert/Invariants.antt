@@ -2,7 +2,7 @@ use Rattle.std.proofs.Common.{◌≡◌, List, length, vec_items}
 use Rattle.automaton.specs.Text.{Text}
 use Rattle.automaton.specs.Trie.{TrieOf}
 use Rattle.automaton.proofs.Put.{Putting}
-use Rattle.automaton.proofs.build.Builder.insert.Given as goal
+use Rattle.automaton.proofs.table.States.insert.Given as goal
 
 abbrev pub invariant-loop-b : goal.invariant-loop-b
 invariant-loop-b l =

@@ -1,7 +1,7 @@
 use Rattle.std.proofs.Common.{vec_items}
 use Rattle.automaton.specs.Link.{Linking, Walked}
 use Rattle.automaton.specs.Words.{words_of}
-use Rattle.automaton.proofs.build.Builder.link.Given as goal
+use Rattle.automaton.proofs.table.States.link.Given as goal
 
 abbrev pub invariant-loop-d : goal.invariant-loop-d
 invariant-loop-d l =

@@ -1,7 +1,7 @@
 use Rattle.std.proofs.Common.{vec_items}
 use Rattle.automaton.specs.Link.{Linking, Walked}
 use Rattle.automaton.specs.Words.{words_of}
-use Rattle.automaton.proofs.build.Builder.link_round.Given as goal
+use Rattle.automaton.proofs.table.States.link_round.Given as goal
 
 abbrev pub invariant-loop-i : goal.invariant-loop-i
 invariant-loop-i l =
