@@ -498,13 +498,6 @@ walk_skip ws d i at h li l = record {
   behind = λ k lk lw. h.behind k (omega arith) lw;
 }
 
-pub walk_round : (ws : List Text) (d i : ℕ) (at : List ℕ) → Walked ws d i at → length ws ≤ i → Walked ws (d + 1) 0 at
-walk_round ws d i at h l = record {
-  len = h.len;
-  ahead = λ k lk lw. absurd (omega arith);
-  behind = λ k lk lw. h.ahead k (omega arith) lw;
-}
-
 -- the remembered end is the longest end that is a state
 tail_end : (ws : List Text) (t : Text) → (front : Text) × (t ≡ front ++ tail ws t)
 unfolding tail

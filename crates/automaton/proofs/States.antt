@@ -96,11 +96,6 @@ member-add_all t [] xs = sym (or-false (member t xs))
 member-add_all t (p ∷ ps) xs =
     member-add_all t ps (add xs p) ∙ ap (λ v. v || member t ps) (member-add t xs p) ∙ or_assoc (member t xs) (same t p) (member t ps)
 
-member-map-nil : (b : ℕ) (ts : List Text) → member [] (map (λ t. b ∷ t) ts) ≡ false
-unfolding member same
-member-map-nil b [] = refl
-member-map-nil b (t ∷ ts) = member-map-nil b ts
-
 member-map-cons : (c : ℕ) (cs : Text) (b : ℕ) (ts : List Text) → member (c ∷ cs) (map (λ t. b ∷ t) ts) ≡ (eqb c b && member cs ts)
 unfolding member same
 member-map-cons c cs b [] = elim (eqb c b) as (λ v. false ≡ (v && false)) [ true ↦ refl | false ↦ refl ]

@@ -176,6 +176,7 @@ fn two_words(rt: HostRuntime) -> Result<(), Fail> {
     let (list, taken) = WordList::read(heap, b"\x02\x03abc\x02bd and more")?;
     assert_eq!(rt; taken, 8);
     assert_eq!(rt; list.len(), 2);
+    assert_eq!(rt; list.words().len(), 2);
     assert!(rt; list.word(1) == Some(b"bd"));
     assert!(rt; list.word(2).is_none());
     let table = Table::build(heap, &list)?;

@@ -3,22 +3,8 @@ use Rattle.automaton.proofs.Looks.{state_in}
 use Rattle.automaton.proofs.table.Table.look.Goals as goal
 use Rattle.automaton.proofs.table.Table.look.Goals.{then-from-len, else-from-len}
 
-pub scan-requires : goal.scan-requires
-scan-requires c =
-    let table = c.args.self.now in
-    rw (c.deref.ensures.value, c.deref-2.ensures.value) (record {
-      sound = record { rows_len = table.long; rows_in = table.closed };
-      within = elim c.if-from-len.branch [
-        | then-from-len w ↦ omega (arith, w.start-is, w.if-from-len.true, c.from.ensures, c.len.ensures, table.states.tells.ok.0)
-        | else-from-len w ↦ omega (arith, w.start-is, table.some)
-      ];
-    })
-
-pub returns : goal.returns
-returns c = record {
-  among = c.scan.ensures.among;
-  finds = λ ws t h e. rw (c.deref.ensures.value, c.deref-2.ensures.value) at c.scan.ensures.finds ws t h (elim c.if-from-len.branch [
-    | then-from-len w ↦ w.start-is ∙ e
-    | else-from-len w ↦ absurd (omega (arith, state_in ws _ _ c.args.state t h e, w.if-from-len.false, c.from.ensures, c.len.ensures, c.args.self.now.states.tells.ok.0))
-  ]);
-}
+pub returns-clause-finds : goal.returns-clause-finds
+returns-clause-finds c = λ ws t h e. rw (c.deref.ensures.value, c.deref-2.ensures.value) at c.scan.ensures.finds ws t h (elim c.if-from-len.branch [
+  | then-from-len w ↦ w.start-is ∙ e
+  | else-from-len w ↦ absurd (omega (arith, state_in ws _ _ c.args.state t h e, w.if-from-len.false, c.from.ensures, c.len.ensures, c.args.self.now.states.tells.ok.0))
+])
