@@ -13,6 +13,7 @@ const MOST_WORDS: usize = 128;
 
 const MOST_BYTES: usize = 4096;
 
+// At most 128 words, once for each word of a list: a map would be one more thing to prove.
 fn is_among(word: &[u8], words: &[Vec<u8>]) -> bool
     ensures { result ≡ member word.now (words_of words.now) }
 {

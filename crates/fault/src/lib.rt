@@ -11,7 +11,7 @@ use std::alloc::{AllocError, AllocFailed};
 use std::fmt;
 pub use stop::Stop;
 
-// Why something that was read is refused. It is reported under a number.
+// Why something that was read is refused. It is reported under a number, which clauses name: so a trait, and no From for u8.
 pub trait Numbered {
     ghost number: { Self → ℕ };
 

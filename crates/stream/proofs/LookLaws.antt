@@ -1,17 +1,18 @@
 -- Looking at the new bytes of a text, part after part.
 -- Assumes nothing.
-use Rattle.std.proofs.Common.{◌≡◌, ℕ, zero, suc, ◌+◌, ◌-◌, ◌<◌, ◌≤◌, ◌⊎◌, List, [], ◌∷◌, ◌++◌, length, drop, Some, None, Ok, Err, Option, Result, sym, refl, ap, ◌∙◌, subst, ⊎_elim, append_assoc, arith}
-use Rattle.std.proofs.lemmas.List.{append-nil, length-append, take-append-drop}
+use Rattle.std.proofs.Common.{◌≡◌, ℕ, zero, suc, ◌+◌, ◌-◌, ◌<◌, ◌≤◌, ◌⊎◌, List, [], ◌∷◌, ◌++◌, length, drop, Some, None, Ok, Err, Option, Result, sym, refl, ap, ◌∙◌, ⊎_elim, append_assoc, arith}
+use Rattle.std.proofs.lemmas.List.{append-nil, take-append-drop}
 use Rattle.automaton.specs.Look.{look}
 use Rattle.automaton.specs.States.{run}
 use Rattle.automaton.specs.Text.{Text}
+use Rattle.stream.specs.declared.look.Reached.{Reached}
 use Rattle.stream.specs.declared.taken.WordAt.{WordAt}
 use Rattle.automaton.proofs.JudgedLaws.{look-append}
 use Rattle.automaton.proofs.Looks.{look_on}
 use Rattle.window.specs.Known.{Known, learn, on_byte, onwards, overlay, piece}
 use Rattle.window.specs.Ring.{Front}
 use Rattle.window.proofs.KnownLaws.{inside-above, inside_below, learn_outside, onwards_enough, onwards-learn, onwards-none}
-use Rattle.stream.specs.Looked.{LookAt, LookOf}
+use Rattle.stream.specs.Looked.{LookOf}
 
 pub overlay-drop : (f : Known) (i n : ℕ) (bs : List ℕ) → n ≤ length bs → overlay f (i + n) (drop n bs) ≡ drop n (overlay f i bs)
 unfolding overlay
@@ -32,17 +33,22 @@ seen_more f i j part seen rest front e fr =
     e ∙ ap (λ x. seen ++ x) (overlay-front f j rest front fr) ∙ sym (append_assoc seen front (overlay f (j + length front) (drop (length front) rest)))
 
 -- bytes that were looked at without finding a word, and those behind them
-pub look_at-append : (ws : List Text) (t xs ys : Text) (s : ℕ) (r : Result ℕ WordAt) → LookAt ws t xs (Ok s) → LookAt ws (t ++ xs) ys r → LookAt ws t (xs ++ ys) r
-look_at-append ws t xs ys s (Ok u) a b = (look-append ws xs ys t a.0 ∙ b.0, b.1 ∙ ap (run ws 0) (append_assoc t xs ys))
-look_at-append ws t xs ys s (Err w) a b = (b.0, look-append ws xs ys t a.0 ∙ b.1)
+pub look-more : (ws : List Text) (t xs ys : Text) (to : Reached) (r : Result Reached WordAt) → LookOf ws t xs (Ok to) → LookOf ws (t ++ xs) ys r → LookOf ws t (xs ++ ys) r
+look-more ws t xs ys to (Ok u) a b = (
+  look-append ws xs ys t a.0 ∙ b.0,
+  b.1 ∙ ap length (append_assoc t xs ys),
+  b.2 ∙ ap (run ws 0) (append_assoc t xs ys),
+)
+look-more ws t xs ys to (Err w) a b = (b.0, look-append ws xs ys t a.0 ∙ b.1)
 
 -- bytes after the one that completes a word do not count
-pub look_at-on : (ws : List Text) (t xs ys : Text) (w : WordAt) → LookAt ws t xs (Err w) → LookAt ws t (xs ++ ys) (Err w)
-look_at-on ws t xs ys w a = (a.0, look_on ws xs ys t _ a.1)
+pub look-past : (ws : List Text) (t xs ys : Text) (w : WordAt) → LookOf ws t xs (Err w) → LookOf ws t (xs ++ ys) (Err w)
+look-past ws t xs ys w a = (a.0, look_on ws xs ys t _ a.1)
 
-pub look_at-none : (ws : List Text) (t : Text) (s : ℕ) → s ≡ run ws 0 t → LookAt ws t [] (Ok s)
+-- no bytes
+pub look-none : (ws : List Text) (t : Text) (r : Reached) → r.end ≡ length t → r.state ≡ run ws 0 t → LookOf ws t [] (Ok r)
 unfolding look
-look_at-none ws t s e = (refl, e ∙ ap (run ws 0) (sym (append-nil t)))
+look-none ws t r n e = (refl, n ∙ ap length (sym (append-nil t)), e ∙ ap (run ws 0) (sym (append-nil t)))
 
 -- The bytes by which the text grows
 
@@ -71,7 +77,3 @@ module _ (f : Known) (low w end place : ℕ) (bs : List ℕ) (above : low ≤ en
       onwards_enough (w - (place + length bs - end)) w (place + length bs) (low + w) f outside (omega arith) (omega arith) in
       ap (λ x. x ++ onwards w (place + length bs) f) d ∙ ap (λ x. drop (end - place) (overlay f place bs) ++ x) (sym k)
       ∙ sym (onwards-learn w place end bs f a (omega arith) (omega arith))
-
--- how far the text reaches with the new bytes
-pub look_of : (ws : List Text) (t new more : Text) (s end : ℕ) → new ≡ more → end ≡ length t + length new → LookAt ws t new (Ok s) → LookOf ws t more (Ok (record { end = end; state = s }))
-look_of ws t new more s end e n j = subst (λ (x : Text). LookOf ws t x (Ok (record { end = end; state = s }))) e (j.0, n ∙ sym (length-append t new), j.1)

@@ -9,6 +9,7 @@ mod stream;
 mod take;
 mod taken;
 
+pub use look::Reached;
 pub use marks::Marks;
 pub use stream::Stream;
 pub use taken::{Passed, Refused, WordAt};

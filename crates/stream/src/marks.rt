@@ -3,6 +3,7 @@ ghost use Rattle.std.specs.Prelude.{◌≡◌, ◌<◌, true, false, None};
 ghost use Rattle.window.specs.Known.{or_else};
 ghost use Rattle.stream.specs.Marks.{limit_of, low_after};
 
+use crate::look::Reached;
 use sequence::Place;
 
 #[derive(Clone, Copy, PartialEq, Eq, Debug)]
@@ -20,7 +21,7 @@ pub struct Marks {
 }
 
 impl Marks {
-    // Those of a stream that begins.
+    // Those of a stream that begins; no derived Default, so that the contract says each.
     pub fn start() -> Marks
         ensures { result ≡ record { low = 0; end = 0; fin = None; state = 0; shut = false } }
     {
@@ -54,14 +55,24 @@ impl Marks {
     }
 
     // A segment was passed on: the text ends there then, and a FIN was kept of it or not.
-    pub fn grown(self, end: u64, state: u16, fin: Option<u64>) -> Marks
-        ensures { result ≡ record { low = self.low; end = end; fin = or_else fin self.fin; state = state; shut = self.shut } }
+    pub fn grown(self, reached: Reached, fin: Option<u64>) -> Marks
+        ensures { result ≡ record { low = self.low; end = reached.end; fin = or_else fin self.fin; state = reached.state; shut = self.shut } }
     {
         Marks {
-            end,
+            end: reached.end,
             fin: fin.or(self.fin),
-            state,
+            state: reached.state,
             ..self
+        }
+    }
+
+    // How far the text reaches.
+    pub fn reached(self) -> Reached
+        ensures { result ≡ record { end = self.end; state = self.state } }
+    {
+        Reached {
+            end: self.end,
+            state: self.state,
         }
     }
 

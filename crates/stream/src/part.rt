@@ -8,6 +8,7 @@ use crate::stream::Stream;
 use sequence::{PLACES, Place};
 
 // The part of a segment's bytes from `start` up to `end`, whose first byte stands at `place`.
+// Two numbers: `take` uses them more than once, a Range is not Copy, and its clone may fail.
 #[derive(Clone, Copy)]
 pub struct Part {
     pub start: usize,

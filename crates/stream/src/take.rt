@@ -61,8 +61,7 @@ impl Stream {
         let looked = look(
             &self.window,
             table,
-            marks.end,
-            marks.state,
+            marks.reached(),
             place,
             &payload[start..end],
         );
@@ -77,7 +76,7 @@ impl Stream {
             return Ok(None);
         }
         self.write(place, &mut payload[start..end]);
-        self.marks = marks.grown(reached.end, reached.state, kept);
+        self.marks = marks.grown(reached, kept);
         Ok(Some(Passed {
             start,
             end,

@@ -1,7 +1,7 @@
 // What is done with a segment.
 
 // What goes on: the part of the bytes from `start` up to `end`, its first byte at `place`, and the FIN that is kept, by its place.
-// Two numbers, since a Range is not Copy, and its clone may fail.
+// Two numbers, as in a part.
 #[derive(Clone, Copy, PartialEq, Eq, Debug)]
 pub struct Passed {
     pub start: usize,

@@ -19,6 +19,7 @@ pub struct Ring {
     ghost round: { ∥ IsPowerOfTwo (vec_len bytes) ∥₁ },
 }
 
+// As with bits, that a part's cells lie inside stays a premise.
 impl Ring {
     ghost use Rattle.window.specs.Cells.{cells};
 

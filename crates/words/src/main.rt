@@ -33,6 +33,7 @@ fn read_list(rt: &HostRuntime) -> Result<WordList, Stop> {
     let mut bytes = Vec::new(heap);
     rt.stdin().read_to_end(&mut bytes)?;
     let (list, taken) = WordList::read(heap, &bytes)?;
+    // bytes behind the list are reported under the number of a cut one
     if taken < bytes.len() {
         return Err(Stop::Fault(ListFault {
             refusal: ListRefusal::Cut,

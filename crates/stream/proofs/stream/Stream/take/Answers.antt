@@ -37,7 +37,7 @@ returns-then-is_none c = record {
       let so = (promise (width v.window) ws ne before).sound in
       let r = c.part-start.result in
       let pa = c.part-start.ensures in
-      let l = looks ws s v a r st so pa (Ok c.in-Ok.reached) (c.in-Ok.ensures ws s.text tb st.state st.end (text_low ws s v a r st so pa) (text_ends_lem ws s v a r st so pa)) in
+      let l = looks ws s v a r st so pa (Ok c.in-Ok.reached) ((rw c.reached.ensures at c.in-Ok.ensures) ws s.text tb st.state st.end (text_low ws s v a r st so pa) (text_ends_lem ws s v a r st so pa)) in
       let ek : c.if-fin.kept ≡ fin_left (width v.window) s a = elim c.if-fin.branch [
         | then-fin w ↦
             w.kept-is ∙ w.kept_fin-kept.ensures
@@ -60,7 +60,7 @@ returns-in-Err c = record {
       let so = (promise (width v.window) ws ne before).sound in
       let r = c.part-start.result in
       let pa = c.part-start.ensures in
-      let l = looks ws s v a r st so pa (Err c.in-Err.word) (c.in-Err.ensures ws s.text tb st.state st.end (text_low ws s v a r st so pa) (text_ends_lem ws s v a r st so pa)) in
+      let l = looks ws s v a r st so pa (Err c.in-Err.word) ((rw c.reached.ensures at c.in-Err.ensures) ws s.text tb st.state st.end (text_low ws s v a r st so pa) (text_ends_lem ws s v a r st so pa)) in
       took ws before a (width v.window) (record { window = v.window; marks = c.shut_down-self.result }) c.args.payload.now (Err (Word c.in-Err.word)) ne refl
       (word-outcome ws s v a r st so pa (sym st.shut ∙ c.if-self.false) c.in-Err.word l)
       (shut_shown ws s v a r st so pa (record { window = v.window; marks = c.shut_down-self.result }) refl c.shut_down-self.ensures) tt;
@@ -87,7 +87,7 @@ returns c =
           let s = run (width v.window) ws blank before in
           let so = (promise (width v.window) ws ne before).sound in
           let l = looks ws s v a r st so pa (Ok c.in-Ok.reached)
-          (c.in-Ok.ensures ws s.text tb st.state st.end (text_low ws s v a r st so pa) (text_ends_lem ws s v a r st so pa)) in
+          ((rw c.reached.ensures at c.in-Ok.ensures) ws s.text tb st.state st.end (text_low ws s v a r st so pa) (text_ends_lem ws s v a r st so pa)) in
           let ek : c.if-fin.kept ≡ fin_left (width v.window) s a = elim c.if-fin.branch [
             | then-fin w ↦
                 w.kept-is ∙ w.kept_fin-kept.ensures
