@@ -26,6 +26,8 @@ grep -nE 'abbrev pub (model_of|model_side)' crates/*/specs/*.antt
 
 echo "== 3 loops that count"
 grep -nE '\bwhile\b|\bfor [a-z_]+ in [0-9a-z_(]+(\(.*\))?\.\.|\bloop\b' $src
+# added later: ranges with spaces in them, and numbers beside items
+grep -nE '\bfor [a-z_]+ in [^{]* / [^{]*\.\.|\.enumerate\(\)' $src
 grep -nE '^\s+(done|i|at|size|rest) [-+/]?= ' $src
 
 echo "== 4 by hand what a derive or a trait does"

@@ -141,10 +141,10 @@ module _ (old rest : Bytes) (start : ℕ) (l : start ≤ length old) (n : length
       where
         go : (u : Option Part) → stream.Left (between start (length old) old) rest (Ok u) → edit_left first sg u ≡ Ok edit → Within new edit.start edit.end
         go (Some p) q f =
-            let ea : edit.start ≡ start + p.start = ap (λ d. d.start) (sym (ok_is f)) ∙ ap (λ i. i + p.start) es in
-            let ee : edit.end ≡ start + p.end = ap (λ d. d.end) (sym (ok_is f)) ∙ ap (λ i. i + p.end) es in
-            let lt : p.end ≤ length (between start (length old) old) = q.1 in
-            rw (ea, ee) (within_new h eh p.start p.end q.0 (omega (arith, payload_length old start)))
+            let ea : edit.start ≡ start + p.part.start = ap (λ d. d.start) (sym (ok_is f)) ∙ ap (λ i. i + p.part.start) es in
+            let ee : edit.end ≡ start + p.part.end = ap (λ d. d.end) (sym (ok_is f)) ∙ ap (λ i. i + p.part.end) es in
+            let lt : p.part.end ≤ length (between start (length old) old) = q.1 in
+            rw (ea, ee) (within_new h eh p.part.start p.part.end q.0 (omega (arith, payload_length old start)))
         go None q f = elim (cases_Bool sg.marks.ack) [
           | inr b ↦ absurd (let g = sym f ∙ cond-false sg.marks.ack _ (Err refusal.Empty) b in let z : ◌≡◌ {A = ℕ} 0 1 = cc in omega arith)
           | inl b ↦
@@ -182,9 +182,9 @@ module _ (old rest : Bytes) (start : ℕ) (l : start ≤ length old) (n : length
 
         go : (u : Option Part) → stream.Left (between start (length old) old) rest (Ok u) → edit_left first sg u ≡ Ok edit → Left old exit (Ok (record { start = a; end = e }))
         go (Some p) q f =
-            let lt : p.end ≤ length (between start (length old) old) = q.1 in
-            outside p.start p.end q.0 (omega (arith, payload_length old start)) (ap (λ d. d.start) (sym (ok_is f)) ∙ ap (λ i. i + p.start) es) (ap (λ d. d.end) (sym (ok_is f)) ∙ ap (λ i. i + p.end) es)
-            (front_same p.start q.2) (back_same p.end q.3)
+            let lt : p.part.end ≤ length (between start (length old) old) = q.1 in
+            outside p.part.start p.part.end q.0 (omega (arith, payload_length old start)) (ap (λ d. d.start) (sym (ok_is f)) ∙ ap (λ i. i + p.part.start) es) (ap (λ d. d.end) (sym (ok_is f)) ∙ ap (λ i. i + p.part.end) es)
+            (front_same p.part.start q.2) (back_same p.part.end q.3)
         go None q f = elim (cases_Bool sg.marks.ack) [
           | inr b ↦ absurd (let g = sym f ∙ cond-false sg.marks.ack _ (Err refusal.Empty) b in let z : ◌≡◌ {A = ℕ} 0 1 = cc in omega arith)
           | inl b ↦
@@ -278,15 +278,15 @@ module _ (c : Config) (m : Connection) (v : Value) (h : Held c m v) where
       left_passed = passed_part c.width m.stream (piece_of (segment_at m (packet old)))
 
       -- of a piece that is passed on, these are its bytes
-      passed_part_lem : (p : Part) → r ≡ Ok (Some p) → left_passed ≡ between p.start p.end rest
+      passed_part_lem : (p : Part) → r ≡ Ok (Some p) → left_passed ≡ between p.part.start p.part.end rest
       passed_part_lem p er = go (outcome c.width c.words m.stream (segment_at m (packet old))) (done c.width c.words m.stream (segment_at m (packet old)))
           (answer ∙ ap (outcome_of c.words rest) er)
         where
-          go : (o : Outcome) → Done c.width c.words m.stream (segment_at m (packet old)) o → o ≡ Passed (record { at = p.place; bytes = between p.start p.end rest }) p.fin → left_passed ≡ between p.start p.end rest
+          go : (o : Outcome) → Done c.width c.words m.stream (segment_at m (packet old)) o → o ≡ Passed (record { at = p.part.place; bytes = between p.part.start p.part.end rest }) p.fin → left_passed ≡ between p.part.start p.part.end rest
           go _ (closed e) f = absurd (let z : ◌≡◌ {A = ℕ} 0 1 = cc in omega arith)
           go _ (word e found l) f = absurd (let z : ◌≡◌ {A = ℕ} 0 1 = cc in omega arith)
           go _ (empty e l n k) f = absurd (let z : ◌≡◌ {A = ℕ} 0 1 = cc in omega arith)
-          go _ (passes e l) f = let q : piece_left c.width m.stream (segment_at m (packet old)) ≡ record { at = p.place; bytes = between p.start p.end rest } = cc in ap (λ (x : Piece). x.bytes) q
+          go _ (passes e l) f = let q : piece_left c.width m.stream (segment_at m (packet old)) ≡ record { at = p.part.place; bytes = between p.part.start p.part.end rest } = cc in ap (λ (x : Piece). x.bytes) q
 
       empty_part : r ≡ Ok None → left_passed ≡ left_inside
       empty_part er = go (outcome c.width c.words m.stream (segment_at m (packet old))) (done c.width c.words m.stream (segment_at m (packet old))) (answer ∙ ap (outcome_of c.words rest) er)
@@ -302,14 +302,14 @@ module _ (c : Config) (m : Connection) (v : Value) (h : Held c m v) where
         kept_same e = go t er left (subst (Cuts left_inside payload) er cuts)
           where
             go : (u : Option Part) → r ≡ Ok u → stream.Left payload rest (Ok u) → Cuts left_inside payload (Ok u) → rest ≡ payload
-            go (Some p) eu l k = parts_same p.start p.end l.0 l.1 l.2 l.3 (sym (passed_part_lem p eu) ∙ e ∙ sym k)
+            go (Some p) eu l k = parts_same p.part.start p.part.end l.0 l.1 l.2 l.3 (sym (passed_part_lem p eu) ∙ e ∙ sym k)
             go None eu l k = l
 
         not_changed : rest ≡ payload → left_passed ≡ left_inside
         not_changed f = go t er (subst (Cuts left_inside payload) er cuts)
           where
             go : (u : Option Part) → r ≡ Ok u → Cuts left_inside payload (Ok u) → left_passed ≡ left_inside
-            go (Some p) eu k = passed_part_lem p eu ∙ ap (between p.start p.end) f ∙ k
+            go (Some p) eu k = passed_part_lem p eu ∙ ap (between p.part.start p.part.end) f ∙ k
             go None eu k = empty_part eu
 
         -- the patch says what was overwritten
@@ -360,19 +360,19 @@ module _ (c : Config) (m : Connection) (v : Value) (h : Held c m v) where
       abbrev taken_by : Option ℕ → Stream
       taken_by fin = streams.taken c.width (piece_of (segment_at m (packet old))) fin m.stream
 
-      number_is : (p : Part) (bytes : Bytes) → p.start ≤ p.end → length bytes ≡ p.end - p.start →
-          number_at v.first sg.number (option_or (first_byte p) p.fin) ≡ number_left m (packet old) p.place bytes p.fin
+      number_is : (p : Part) (bytes : Bytes) → p.part.start ≤ p.part.end → length bytes ≡ p.part.end - p.part.start →
+          number_at v.first sg.number (option_or (first_byte p) p.fin) ≡ number_left m (packet old) p.part.place bytes p.fin
       number_is p bytes o n = go p.fin bytes n
         where
-          go : (fin : Option ℕ) (bs : Bytes) → length bs ≡ p.end - p.start → number_at v.first sg.number (option_or (first_byte p) fin) ≡ number_left m (packet old) p.place bs fin
+          go : (fin : Option ℕ) (bs : Bytes) → length bs ≡ p.part.end - p.part.start → number_at v.first sg.number (option_or (first_byte p) fin) ≡ number_left m (packet old) p.part.place bs fin
           go fin (b ∷ bs) n =
-              ap (λ x. number_at v.first sg.number (option_or x fin)) (cond-true (ltb p.start p.end) (Some p.place) None (lt-ltb p.start p.end (omega arith)))
-              ∙ ap (λ x. number_of x p.place) h.first
+              ap (λ x. number_at v.first sg.number (option_or x fin)) (cond-true (ltb p.part.start p.part.end) (Some p.part.place) None (lt-ltb p.part.start p.part.end (omega arith)))
+              ∙ ap (λ x. number_of x p.part.place) h.first
           go (Some f) [] n =
-              ap (λ x. number_at v.first sg.number (option_or x (Some f))) (cond-false (ltb p.start p.end) (Some p.place) None (le-ltb p.start p.end (omega arith)))
+              ap (λ x. number_at v.first sg.number (option_or x (Some f))) (cond-false (ltb p.part.start p.part.end) (Some p.part.place) None (le-ltb p.part.start p.part.end (omega arith)))
               ∙ ap (λ x. number_of x f) h.first
           go None [] n =
-              ap (λ x. number_at v.first sg.number (option_or x None)) (cond-false (ltb p.start p.end) (Some p.place) None (le-ltb p.start p.end (omega arith))) ∙ rd.1.number
+              ap (λ x. number_at v.first sg.number (option_or x None)) (cond-false (ltb p.part.start p.part.end) (Some p.part.place) None (le-ltb p.part.start p.part.end (omega arith))) ∙ rd.1.number
 
       marks_is : (fin : Option ℕ) → cond (is_some fin) sg.marks.raw (sg.marks.raw / 2 * 2) ≡ marks_left (packet old) fin
       marks_is (Some f) = rd.1.marks
@@ -391,19 +391,19 @@ module _ (c : Config) (m : Connection) (v : Value) (h : Held c m v) where
 
         pub handles_pass : (t : Option Part) → r ≡ Ok t → stream.Left payload rest (Ok t) → edit_left v.first sg t ≡ Ok edit → Handles c k m (packet old) exit v' (Ok (record { start = a; end = e }))
         handles_pass (Some p) er l f =
-            let bytes = between p.start p.end rest in
+            let bytes = between p.part.start p.part.end rest in
             let number = number_at v.first sg.number (option_or (first_byte p) p.fin) in
             let marks = cond (is_some p.fin) sg.marks.raw (sg.marks.raw / 2 * 2) in
-            let ee : edit ≡ record { number = number; acknowledged = sg.acknowledged; marks = marks; start = sg.payload + p.start; end = sg.payload + p.end } = sym (ok_is f) in
-            let n : length bytes ≡ p.end - p.start = length-between rest p.start p.end (omega (arith, l.1)) in (
+            let ee : edit ≡ record { number = number; acknowledged = sg.acknowledged; marks = marks; start = sg.payload + p.part.start; end = sg.payload + p.part.end } = sym (ok_is f) in
+            let n : length bytes ≡ p.part.end - p.part.start = length-between rest p.part.start p.part.end (omega (arith, l.1)) in (
               advanced c (packet old) (taken_by p.fin) m,
               decided k ∙ ap (λ u. on_outcome c k m (packet old) (outcome_of c.words rest u)) er
                   ∙ ap (Update k (advanced c (packet old) (taken_by p.fin) m) Looms)
                   (sym (out ∙ ap (λ d. rewrite (packet old) d.number d.acknowledged d.marks (between d.start d.end new)) ee
-                  ∙ ap (λ x. rewrite (packet old) number sg.acknowledged marks x) (parts p.start p.end)
+                  ∙ ap (λ x. rewrite (packet old) number sg.acknowledged marks x) (parts p.part.start p.part.end)
                   ∙ ap (λ x. rewrite (packet old) x sg.acknowledged marks bytes) (number_is p bytes l.0 n)
-                  ∙ ap (λ x. rewrite (packet old) (number_left m (packet old) p.place bytes p.fin) x marks bytes) rd.1.acknowledged
-                  ∙ ap (λ x. rewrite (packet old) (number_left m (packet old) p.place bytes p.fin) (packet old).acknowledged x bytes) (marks_is p.fin))),
+                  ∙ ap (λ x. rewrite (packet old) (number_left m (packet old) p.part.place bytes p.fin) x marks bytes) rd.1.acknowledged
+                  ∙ ap (λ x. rewrite (packet old) (number_left m (packet old) p.part.place bytes p.fin) (packet old).acknowledged x bytes) (marks_is p.fin))),
               advance_held (taken_by p.fin) (sym (ap (λ u. after c.width m.stream (segment_at m (packet old)) (outcome_of c.words rest u)) er)),
             )
         handles_pass None er l f = elim (cases_Bool sg.marks.ack) [

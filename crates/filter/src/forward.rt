@@ -56,12 +56,13 @@ fn edit_left(
             ..came
         });
     };
-    let byte = (passed.start < passed.end).then_some(passed.place);
+    let Passed { part, fin } = passed;
+    let byte = (part.start < part.end).then_some(part.place);
     Ok(Edit {
-        number: number_left(first, segment.number, byte, passed.fin),
-        marks: marks_left(segment.marks.raw, passed.fin),
-        start: start + passed.start,
-        end: start + passed.end,
+        number: number_left(first, segment.number, byte, fin),
+        marks: marks_left(segment.marks.raw, fin),
+        start: start + part.start,
+        end: start + part.end,
         ..came
     })
 }

@@ -32,7 +32,7 @@ Answer = Result (Option Part) Refused
 
 -- the outcome that an answer stands for, where these bytes are left in the lent memory
 abbrev pub outcome_of : List Text → List ℕ → Answer → Outcome
-outcome_of ws bytes (Ok (Some p)) = Passed (record { at = p.place; bytes = between p.start p.end bytes }) p.fin
+outcome_of ws bytes (Ok (Some p)) = Passed (record { at = p.part.place; bytes = between p.part.start p.part.end bytes }) p.fin
 outcome_of ws bytes (Ok None) = Empty
 outcome_of ws bytes (Err (refused.Word w)) = Word (record { place = w.place; word = slice_index_or ws w.word [] })
 outcome_of ws bytes (Err refused.Shut) = Closed
@@ -40,6 +40,6 @@ outcome_of ws bytes (Err refused.Shut) = Closed
 -- what is left in the lent memory: only the part that goes on may be another
 abbrev pub Left : List ℕ → List ℕ → Answer → Type 0
 Left came bytes (Ok (Some p)) =
-    (p.start ≤ p.end) × (p.end ≤ length came) × (take p.start bytes ≡ take p.start came) × (drop p.end bytes ≡ drop p.end came)
+    (p.part.start ≤ p.part.end) × (p.part.end ≤ length came) × (take p.part.start bytes ≡ take p.part.start came) × (drop p.part.end bytes ≡ drop p.part.end came)
 Left came bytes (Ok None) = bytes ≡ came
 Left came bytes (Err why) = bytes ≡ came

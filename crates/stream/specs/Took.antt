@@ -14,7 +14,7 @@ use Rattle.stream.specs.declared.stream.Stream.{Stream as Value}
 
 -- the part that goes on is cut from the bytes that came
 abbrev pub Cuts : Text → Text → Answer → Type 0
-Cuts inside came (Ok (Some p)) = between p.start p.end came ≡ inside
+Cuts inside came (Ok (Some p)) = between p.part.start p.part.end came ≡ inside
 Cuts inside came (Ok None) = Unit {0}
 Cuts inside came (Err why) = Unit {0}
 

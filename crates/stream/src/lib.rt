@@ -11,5 +11,6 @@ mod taken;
 
 pub use look::Reached;
 pub use marks::Marks;
+pub use part::Part;
 pub use stream::Stream;
 pub use taken::{Passed, Refused, WordAt};

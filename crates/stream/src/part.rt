@@ -9,7 +9,7 @@ use sequence::{PLACES, Place};
 
 // The part of a segment's bytes from `start` up to `end`, whose first byte stands at `place`.
 // Two numbers: `take` uses them more than once, a Range is not Copy, and its clone may fail.
-#[derive(Clone, Copy)]
+#[derive(Clone, Copy, PartialEq, Eq, Debug)]
 pub struct Part {
     pub start: usize,
     pub end: usize,

@@ -51,7 +51,8 @@ impl Stream {
         if self.marks.shut {
             return Err(Refused::Shut);
         }
-        let Part { start, end, place } = self.part(at, payload.len());
+        let part = self.part(at, payload.len());
+        let Part { start, end, place } = part;
         let kept = if fin {
             self.kept_fin(at.after(payload.len()))
         } else {
@@ -77,12 +78,7 @@ impl Stream {
         }
         self.write(place, &mut payload[start..end]);
         self.marks = marks.grown(reached, kept);
-        Ok(Some(Passed {
-            start,
-            end,
-            place,
-            fin: kept,
-        }))
+        Ok(Some(Passed { part, fin: kept }))
     }
 
     // Whether taking this segment would overwrite one of its bytes with another; nothing is written.

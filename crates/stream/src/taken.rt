@@ -1,12 +1,11 @@
 // What is done with a segment.
 
-// What goes on: the part of the bytes from `start` up to `end`, its first byte at `place`, and the FIN that is kept, by its place.
-// Two numbers, as in a part.
+use crate::part::Part;
+
+// What goes on: a part of the bytes, and the FIN that is kept, by its place.
 #[derive(Clone, Copy, PartialEq, Eq, Debug)]
 pub struct Passed {
-    pub start: usize,
-    pub end: usize,
-    pub place: u64,
+    pub part: Part,
     pub fin: Option<u64>,
 }
 

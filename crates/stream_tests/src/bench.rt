@@ -3,7 +3,7 @@ use automaton::{Table, WordList};
 use sequence::Place;
 use std::fmt::Debug;
 use std::test::Fail;
-use stream::{Passed, Refused, Stream, WordAt};
+use stream::{Part, Passed, Refused, Stream, WordAt};
 
 // What is answered on a segment.
 pub type Answer = Result<Option<Passed>, Refused>;
@@ -69,12 +69,8 @@ pub fn passed(start: usize, end: usize, place: u64) -> Answer {
 
 // Bytes, or none, and a FIN where one goes on.
 pub fn passed_fin(start: usize, end: usize, place: u64, fin: Option<u64>) -> Answer {
-    Ok(Some(Passed {
-        start,
-        end,
-        place,
-        fin,
-    }))
+    let part = Part { start, end, place };
+    Ok(Some(Passed { part, fin }))
 }
 
 pub fn word_at(place: u64, word: u8) -> Answer {

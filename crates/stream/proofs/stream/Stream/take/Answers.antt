@@ -35,8 +35,8 @@ returns-then-is_none c = record {
       let a : Segment = record { at = c.args.at; bytes = c.args.payload.now; fin = c.args.fin } in
       let s = run (width v.window) ws blank before in
       let so = (promise (width v.window) ws ne before).sound in
-      let r = c.part-start.result in
-      let pa = c.part-start.ensures in
+      let r = c.part-part.result in
+      let pa = c.part-part.ensures in
       let l = looks ws s v a r st so pa (Ok c.in-Ok.reached) ((rw c.reached.ensures at c.in-Ok.ensures) ws s.text tb st.state st.end (text_low ws s v a r st so pa) (text_ends_lem ws s v a r st so pa)) in
       let ek : c.if-fin.kept ≡ fin_left (width v.window) s a = elim c.if-fin.branch [
         | then-fin w ↦
@@ -58,8 +58,8 @@ returns-in-Err c = record {
       let a : Segment = record { at = c.args.at; bytes = c.args.payload.now; fin = c.args.fin } in
       let s = run (width v.window) ws blank before in
       let so = (promise (width v.window) ws ne before).sound in
-      let r = c.part-start.result in
-      let pa = c.part-start.ensures in
+      let r = c.part-part.result in
+      let pa = c.part-part.ensures in
       let l = looks ws s v a r st so pa (Err c.in-Err.word) ((rw c.reached.ensures at c.in-Err.ensures) ws s.text tb st.state st.end (text_low ws s v a r st so pa) (text_ends_lem ws s v a r st so pa)) in
       took ws before a (width v.window) (record { window = v.window; marks = c.shut_down-self.result }) c.args.payload.now (Err (Word c.in-Err.word)) ne refl
       (word-outcome ws s v a r st so pa (sym st.shut ∙ c.if-self.false) c.in-Err.word l)
@@ -68,8 +68,8 @@ returns-in-Err c = record {
 
 pub returns : goal.returns
 returns c =
-    let r = c.part-start.result in
-    let pa = c.part-start.ensures in
+    let r = c.part-part.result in
+    let pa = c.part-part.ensures in
     let payload = c.args.payload.now in
     let n : length c.write.new.part ≡ r.end - r.start =
     ap length c.write.ensures.part ∙ length-overlay (knows c.args.self.now.window) r.place (between r.start r.end payload) ∙ length-between payload r.start r.end pa.ends in
@@ -101,7 +101,7 @@ returns c =
           let bytes = put_mid r.start (r.end - r.start) payload c.write.new.part in
           let v' : Value = record { window = c.write.new.self.window; marks = c.grown-self.result } in
           let is_open = sym st.shut ∙ c.if-self.false in
-          took ws before a (width v.window) v' bytes (Ok (Some (record { start = r.start; end = r.end; place = r.place; fin = c.if-fin.kept }))) ne c.write.ensures.width
+          took ws before a (width v.window) v' bytes (Ok (Some (record { part = r; fin = c.if-fin.kept }))) ne c.write.ensures.width
           (passed-outcome ws s v a r st so pa is_open c.in-Ok.reached l c.if-fin.kept ek (between r.start r.end bytes)
           (between-put_mid r.start (r.end - r.start) payload c.write.new.part r.end (omega (arith, pa.ordered, pa.ends)) n ∙ c.write.ensures.part) some)
           (passed_shown ws s v a r st so pa is_open c.in-Ok.reached l c.if-fin.kept ek v' c.grown-self.ensures c.write.ensures.low c.write.ensures.width c.write.ensures.known)
