@@ -96,14 +96,11 @@ impl Input {
     {
         let start = self.start;
         let end = self.end;
-        match Config::read(heap, &self.buffer[start..end]) {
-            Ok((config, taken)) => {
-                self.start = start + taken;
-                self.offset = self.offset.wrapping_add(taken);
-                Ok(config)
-            }
-            Err(error) => Err(error.behind(self.offset)),
-        }
+        let (config, taken) = Config::read(heap, &self.buffer[start..end])
+            .map_err(|error| -> ConfigError { error.behind(self.offset) })?;
+        self.start = start + taken;
+        self.offset = self.offset.wrapping_add(taken);
+        Ok(config)
     }
 
     // Reads the next item. A packet's bytes stand in the buffer where the item says.
