@@ -1,8 +1,6 @@
 -- What was read from a part of the buffer stands in the buffer. Assumes nothing.
-use Rattle.std.proofs.Common.{◌≡◌, ℕ, ◌+◌, ◌-◌, ◌<◌, ◌≤◌, ◌++◌, length, take, drop, Ok, Err, vec_items, Result, sym, ap, ◌∙◌, subst, arith}
-use Rattle.std.specs.Result.{IsErrAnd, MatchResult}
+use Rattle.std.proofs.Common.{◌≡◌, ℕ, ◌+◌, ◌-◌, ◌<◌, ◌≤◌, ◌++◌, length, take, drop, Ok, vec_items, sym, ap, ◌∙◌, subst, arith}
 use Rattle.std.specs.Vec.{with_items}
-use Rattle.std.proofs.lemmas.Result.{err_from_is_err_and}
 use Rattle.std.proofs.lemmas.List.{length-drop, length-take-le, with_items_is}
 use Rattle.packet.specs.Bytes.{Bytes}
 use Rattle.filter.specs.Verdict.{Comes}
@@ -94,8 +92,3 @@ module _ (v : Input) (ds ws : Bytes) (lent : ds ≡ vec_items v.buffer) (long : 
 
   pub filled_long : (n : ℕ) → v.end + n ≤ length ds → length (take n (drop v.end ws)) ≡ n
   filled_long n l = let d = length-drop v.end ws in length-take-le n (drop v.end ws) (omega arith)
-
--- what `map_err` gives is an Ok only of the same Ok
-pub ok_before : {T E D : Type 0} (r : Result T E) (q : Result T D) (P : E → D → Type 0) (y : T) → MatchResult r (λ x. q ≡ Ok x) (λ e. IsErrAnd q (P e)) → q ≡ Ok y → r ≡ Ok y
-ok_before (Ok x) q P y m e = cc
-ok_before (Err d) q P y m e = let p = err_from_is_err_and q m in let n = p.1 in absurd (let z : ◌≡◌ {A = ℕ} 0 1 = cc in omega arith)

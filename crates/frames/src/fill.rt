@@ -96,8 +96,9 @@ impl Input {
     {
         let start = self.start;
         let end = self.end;
-        let (config, taken) = Config::read(heap, &self.buffer[start..end])
-            .map_err(|error| -> ConfigError { error.behind(self.offset) })?;
+        let (config, taken) = Config::read(heap, &self.buffer[start..end]).map_err(
+            |error| -> ConfigError { error.behind(self.offset) },
+        )?;
         self.start = start + taken;
         self.offset = self.offset.wrapping_add(taken);
         Ok(config)

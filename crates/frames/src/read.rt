@@ -116,6 +116,7 @@ impl Config {
         ensures { ReadsConfig bytes.now result }
     {
         let (power, quiet) = read_header(bytes).map_err(|refusal| Fault { refusal, at: 0 })?;
+        // by a match: with `map_err` what its closure gives stayed closed to the proof
         let (words, taken) = match WordList::read(heap, &bytes[HEADER..]) {
             Ok(list) => list,
             Err(error) => return Err(error.behind(HEADER)),
