@@ -10,6 +10,7 @@ pub struct Passed {
 }
 
 // The first word in a text: the place of the byte that completes it, and the word's number.
+// Not automaton's `Match`: that one counts from the first byte of a slice, and this one from the first of the stream.
 #[derive(Clone, Copy, PartialEq, Eq, Debug)]
 pub struct WordAt {
     pub place: u64,
