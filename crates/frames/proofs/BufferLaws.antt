@@ -1,8 +1,6 @@
 -- Parts of a buffer. Assumes nothing.
 use Rattle.std.proofs.Common.{◌≡◌, ℕ, ◌+◌, ◌-◌, ◌≤◌, ◌++◌, length, take, drop, sym, ap, ◌∙◌, arith, take-add}
-use lib.Seq.{paste}
 use Rattle.std.proofs.lemmas.List.{length-take-le, length-drop, take-take, drop-drop, drop-take, drop-append-le}
-use Rattle.std.proofs.lemmas.List.Edits.{take-paste}
 use Rattle.std.proofs.lemmas.Slice.{between_is}
 use Rattle.packet.specs.Bytes.{Bytes}
 
@@ -26,13 +24,6 @@ module _ (xs : Bytes) (a e : ℕ) (forward : a ≤ e) (within : e ≤ length xs)
       let f : q - p ≤ e - (a + p) = omega arith in
       ap (λ n. take n (drop (a + p) xs)) k ∙ sym (take-take (q - p) (e - (a + p)) (drop (a + p) xs) f) ∙ ap (take (q - p)) (part_rest p (omega arith))
 
-  -- a part that was moved to the front
-  pub moved_part : take ((e - a) - 0) (drop 0 (paste xs 0 (drop a xs) (e - a))) ≡ part
-  moved_part =
-      let z : (e - a) - 0 ≡ 0 + (e - a) = omega arith in
-      let d = length-drop a xs in
-      ap (λ n. take n (paste xs 0 (drop a xs) (e - a))) z ∙ take-paste xs 0 (drop a xs) (e - a) (omega arith) (omega arith)
-
   -- a part behind which k bytes more came
   pub grown_part : (ys : Bytes) (k : ℕ) → take e ys ≡ take e xs → e + k ≤ length ys → take (e + k - a) (drop a ys) ≡ part ++ take k (drop e ys)
   grown_part ys k s l =
@@ -41,7 +32,3 @@ module _ (xs : Bytes) (a e : ℕ) (forward : a ≤ e) (within : e ≤ length xs)
       ∙ ap (drop a) (take-add e k ys ∙ ap (λ zs. zs ++ take k (drop e ys)) s)
       ∙ drop-append-le a (take e xs) (take k (drop e ys)) (omega arith)
       ∙ ap (λ zs. zs ++ take k (drop e ys)) (sym (between_is xs a e))
-
-  -- or none
-  pub same_part : (ys : Bytes) → take e ys ≡ take e xs → take (e - a) (drop a ys) ≡ part
-  same_part ys s = between_is ys a e ∙ ap (drop a) s ∙ sym (between_is xs a e)

@@ -11,7 +11,7 @@ use Rattle.frames.specs.declared.config.Config.{Config}
 use Rattle.frames.specs.declared.item.Item.{Item}
 use Rattle.frames.specs.declared.item.Item.TheVariants.{Packet, Ticks}
 use Rattle.frames.specs.declared.input.Input.{Input}
-use Rattle.frames.proofs.BufferLaws.{grown_part, length_part, part_part, part_rest, same_part}
+use Rattle.frames.proofs.BufferLaws.{grown_part, length_part, part_part, part_rest}
 
 pub record Took (xs : Bytes) (a e n : ℕ) (it : Item) : Type 0 where
   pub reads : item (take (e - a) (drop a xs)) ≡ Ok (record { event = event_of xs it; taken = n })
@@ -78,12 +78,6 @@ module _ (v : Input) (ds ws : Bytes) (lent : ds ≡ vec_items v.buffer) (long : 
 
   pub size_there : length now_there ≡ length (vec_items v.buffer)
   size_there = ap length there_is ∙ long ∙ ap length lent
-
-  pub filled_within : (n : ℕ) → v.end + n ≤ length ds → v.end + n ≤ length now_there
-  filled_within n l = let s = size_there in let d = ap length lent in omega arith
-
-  pub filled_none : take (v.end - v.start) (drop v.start now_there) ≡ pending v
-  filled_none = ap (λ t. take (v.end - v.start) (drop v.start t)) there_is ∙ same_part (vec_items v.buffer) v.start v.end v.forward v.within ws front_same
 
   pub filled_some : (n : ℕ) → v.end + n ≤ length ds → take (v.end + n - v.start) (drop v.start now_there) ≡ pending v ++ take n (drop v.end ws)
   filled_some n l =
