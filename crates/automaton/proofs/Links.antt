@@ -3,10 +3,11 @@
 use Rattle.std.proofs.Common.{◌≡◌, ℕ, zero, suc, ◌+◌, ◌*◌, ◌/◌, ◌%◌, ◌<◌, ◌≤◌, true, false, cond, eqb, ◌≢◌, ◌⊎◌, List, [], ◌∷◌, ◌++◌, length, get_or, take, drop, set, Some, None, Option, sym, refl, ap, ◌∙◌, subst, inl, inr, arith}
 use Rattle.std.proofs.lemmas.Bool.{false≢true, or_parts, or_from, or_cases, or_left, or_right, and_parts, and_from, cond_both, cond-true, cond-false, eqb-true, eq-eqb, ne_eqb, cases_lt, cases_Bool, cases_eq, both_ways}
 use Rattle.std.proofs.lemmas.List.{length-append, length-drop, length-take-le, take_more, take_all, nil_from_length, get_or-set_same, get_or-set_other, length-set}
+use Rattle.std.specs.Option.{option_or}
 use Rattle.automaton.specs.Text.{Text, begins, begins_some, tail, same, member}
 use Rattle.automaton.specs.States.{place, inits, inits_of, add, add_all, run, states, text_of, state_of, goto, last_index, tells_of}
 use Rattle.automaton.specs.Trie.{word_at, place_or0, onward, TrieOf}
-use Rattle.automaton.specs.Link.{or_else, Closed, fallback, Linked, fail_of, Done, Through, Linking, Walked, Right}
+use Rattle.automaton.specs.Link.{Closed, fallback, Linked, fail_of, Done, Through, Linking, Walked, Right}
 use Rattle.automaton.specs.Promise.{StatesAre, GoesToLongest, Examples}
 use Rattle.automaton.proofs.States.{same_true, place_in, member-get_or, member-states, some-states, text_start, state_text, state_start, text_tail, state_tail_in, goto-tail, last_tail, get_or-place}
 use Rattle.automaton.proofs.Grow.{rooted_states, place-not_root, place_or0_known, place_or0-none, push_not_nil, same_false}
@@ -156,28 +157,28 @@ fail_shorter ws s d l =
     omega (arith, ap length (fail_text ws s), length-tail ws (drop 1 (text_of ws s)), length-drop 1 (text_of ws s))
 
 -- what a state tells that takes over
-last_law : (ws : List Text) (y : ℕ) (ys : Text) → last_index ws (y ∷ ys) ≡ or_else (word_at ws (y ∷ ys)) (last_index ws ys)
+last_law : (ws : List Text) (y : ℕ) (ys : Text) → last_index ws (y ∷ ys) ≡ option_or (word_at ws (y ∷ ys)) (last_index ws ys)
 unfolding last_index word_at
 last_law ws y ys =
-    elim (member (y ∷ ys) ws) as (λ v. cond v (Some (place (y ∷ ys) ws)) (last_index ws ys) ≡ or_else (cond v (Some (place (y ∷ ys) ws)) None) (last_index ws ys)) [
+    elim (member (y ∷ ys) ws) as (λ v. cond v (Some (place (y ∷ ys) ws)) (last_index ws ys) ≡ option_or (cond v (Some (place (y ∷ ys) ws)) None) (last_index ws ys)) [
       | true ↦ refl
       | false ↦ refl
     ]
 
-or_else_twice : (a o : Option ℕ) → or_else (or_else a o) o ≡ or_else a o
-or_else_twice None None = refl
-or_else_twice None (Some n) = refl
-or_else_twice (Some m) o = refl
+or_twice : (a o : Option ℕ) → option_or (option_or a o) o ≡ option_or a o
+or_twice None None = refl
+or_twice None (Some n) = refl
+or_twice (Some m) o = refl
 
 pub tells_over : (ws : List Text) (s y : ℕ) (ys : Text) (x : Option ℕ) → text_of ws s ≡ y ∷ ys → (x ≡ tells_of ws s) ⊎ (x ≡ word_at ws (text_of ws s)) →
-    or_else x (tells_of ws (fail_of ws s)) ≡ tells_of ws s
+    option_or x (tells_of ws (fail_of ws s)) ≡ tells_of ws s
 unfolding tells_of
 tells_over ws s y ys x e h =
     let f : last_index ws (text_of ws (fail_of ws s)) ≡ last_index ws ys = ap (last_index ws) (fail_text ws s ∙ ap (λ t. tail ws (drop 1 t)) e) ∙ sym (last_tail ws ys) in
-    let l : last_index ws (text_of ws s) ≡ or_else (word_at ws (y ∷ ys)) (last_index ws ys) = ap (last_index ws) e ∙ last_law ws y ys in
+    let l : last_index ws (text_of ws s) ≡ option_or (word_at ws (y ∷ ys)) (last_index ws ys) = ap (last_index ws) e ∙ last_law ws y ys in
     elim h [
-      | inl i ↦ ap (or_else x) f ∙ ap (λ o. or_else o (last_index ws ys)) (i ∙ l) ∙ or_else_twice (word_at ws (y ∷ ys)) (last_index ws ys) ∙ sym l
-      | inr i ↦ ap (or_else x) f ∙ ap (λ o. or_else o (last_index ws ys)) (i ∙ ap (word_at ws) e) ∙ sym l
+      | inl i ↦ ap (option_or x) f ∙ ap (λ o. option_or o (last_index ws ys)) (i ∙ l) ∙ or_twice (word_at ws (y ∷ ys)) (last_index ws ys) ∙ sym l
+      | inr i ↦ ap (option_or x) f ∙ ap (λ o. option_or o (last_index ws ys)) (i ∙ ap (word_at ws) e) ∙ sym l
     ]
 
 -- the state c is linked, whose text has d + 1 bytes, and all shorter texts are through
@@ -192,7 +193,7 @@ module _ (ws : List Text) (d i : ℕ) (rows : List ℕ) (tells : List (Option �
       ]
 
   tells_other : (u : ℕ) → u ≢ c → get_or tells' u None ≡ get_or tells u None
-  tells_other u n = rw k.ends (get_or-set_other tells c u (or_else (get_or tells c None) (get_or tells f None)) None n)
+  tells_other u n = rw k.ends (get_or-set_other tells c u (option_or (get_or tells c None) (get_or tells f None)) None n)
 
   fail_other : (u : ℕ) → u ≢ c → get_or fail' u 0 ≡ get_or fail u 0
   fail_other u n = rw k.fails (get_or-set_other fail c u f 0 n)
@@ -207,8 +208,8 @@ module _ (ws : List Text) (d i : ℕ) (rows : List ℕ) (tells : List (Option �
         ∙ ap (λ v. cond (eqb (get_or rows (c * 256 + b) 0) 0) v (get_or rows (c * 256 + b) 0)) (fallen.row b lb ∙ ap (λ g. goto ws g b) ef)
         ∙ goto_over ws c b y (get_or rows (c * 256 + b) 0) ys tc (h.goes c b lc lb);
     told =
-        rw k.ends (get_or-set_same tells c (or_else (get_or tells c None) (get_or tells f None)) None (omega (arith, h.tells_len)))
-        ∙ ap (or_else (get_or tells c None)) (fallen.told ∙ ap (tells_of ws) ef) ∙ tells_over ws c y ys (get_or tells c None) tc (h.ends c lc);
+        rw k.ends (get_or-set_same tells c (option_or (get_or tells c None) (get_or tells f None)) None (omega (arith, h.tells_len)))
+        ∙ ap (option_or (get_or tells c None)) (fallen.told ∙ ap (tells_of ws) ef) ∙ tells_over ws c y ys (get_or tells c None) tc (h.ends c lc);
     falls = rw k.fails (get_or-set_same fail c f 0 (omega (arith, h.fail_len))) ∙ ef;
   }
 
@@ -222,7 +223,7 @@ module _ (ws : List Text) (d i : ℕ) (rows : List ℕ) (tells : List (Option �
   pub linked_more : (j : ℕ) → ((u : ℕ) → u < length (states ws) → Through ws d j (text_of ws u) → (u ≡ c) ⊎ Through ws d i (text_of ws u)) → Linking ws d j rows' tells' fail'
   linked_more j t = record {
     rows_len = k.fills.len ∙ h.rows_len;
-    tells_len = ap length k.ends ∙ length-set tells c (or_else (get_or tells c None) (get_or tells f None)) ∙ h.tells_len;
+    tells_len = ap length k.ends ∙ length-set tells c (option_or (get_or tells c None) (get_or tells f None)) ∙ h.tells_len;
     fail_len = ap length k.fails ∙ length-set fail c f ∙ h.fail_len;
     fail_in = λ u lu. elim (cases_eq u c) [
       | inl e ↦ rw (e, done_here.falls) (fail_in ws c)

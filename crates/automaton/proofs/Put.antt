@@ -4,12 +4,12 @@ use Rattle.std.proofs.Common.{◌≡◌, ℕ, zero, suc, ◌+◌, ◌*◌, ◌<�
 use Rattle.std.proofs.lemmas.Bool.{or_parts, or_right, or_left, or_from, cond-true, cond-false, cases_Bool, cases_eq, cases_lt, cond_both}
 use Rattle.std.proofs.lemmas.List.{append-nil, length-map, get_or-map, take_more, take_all, length-replicate, get_or-replicate, get_or_past, get_or-set_same, get_or-set_other, length-set, length_push, length-append, take-append-drop}
 use Rattle.std.specs.declared.alloc.Global.{Global}
+use Rattle.std.specs.Option.{option_or}
 use Rattle.automaton.specs.Words.{words_of}
 use Rattle.automaton.specs.Lists.{total}
 use Rattle.automaton.specs.Text.{Text, begins_some, same, member}
 use Rattle.automaton.specs.States.{place, inits, inits_of, add, add_all, states}
 use Rattle.automaton.specs.Trie.{reached, grown_rows, grown_tells, word_at, place_or0, onward, Trie, TrieOf}
-use Rattle.automaton.specs.Link.{or_else}
 use Rattle.automaton.proofs.States.{or-false, same_refl, place_in, get_or-place, member-get_or, member-append, place-append_left, place_push, member-add, member-add_all, member-states, not-member, length-add}
 use Rattle.automaton.proofs.Grow.{place-not_root, place_or0_known, Rooted, rooted_add, rooted_states, same_false, step_by}
 
@@ -132,7 +132,7 @@ member_push : (ws : List Text) (w t : Text) → member t (ws ++ (w ∷ [])) ≡ 
 unfolding member
 member_push ws w t = member-append t ws (w ∷ []) ∙ ap (λ v. member t ws || v) (or-false (same t w))
 
-word_at_push : (ws : List Text) (w : Text) → word_at (ws ++ (w ∷ [])) w ≡ or_else (word_at ws w) (Some (length ws))
+word_at_push : (ws : List Text) (w : Text) → word_at (ws ++ (w ∷ [])) w ≡ option_or (word_at ws w) (Some (length ws))
 word_at_push ws w =
     word_at_known (ws ++ (w ∷ [])) w (member_push ws w w ∙ or_right (member w ws) (same w w) (same_refl w))
     ∙ elim (cases_Bool (member w ws)) [
@@ -150,18 +150,18 @@ word_at_other ws w t d =
 
 -- the word's number is written down where it ends, unless one stands there
 ended : (seen ws : List Text) (w : Text) (s : ℕ) (rows : List ℕ) (tells : List (Option ℕ)) → Rooted seen → Trie seen ws rows tells → s < length seen → get_or seen s [] ≡ w →
-    Trie seen (ws ++ (w ∷ [])) rows (set tells s (or_else (get_or tells s None) (Some (length ws))))
+    Trie seen (ws ++ (w ∷ [])) rows (set tells s (option_or (get_or tells s None) (Some (length ws))))
 ended seen ws w s rows tells r h l here =
     record {
       rows_len = h.rows_len;
-      tells_len = length-set tells s (or_else (get_or tells s None) (Some (length ws))) ∙ h.tells_len;
+      tells_len = length-set tells s (option_or (get_or tells s None) (Some (length ws))) ∙ h.tells_len;
       goes = h.goes;
       ends = λ u lu. elim (cases_eq u s) [
         | inl e ↦ rw e
-            (get_or-set_same tells s (or_else (get_or tells s None) (Some (length ws))) None (omega (arith, h.tells_len))
-            ∙ ap (λ o. or_else o (Some (length ws))) (h.ends s l ∙ ap (word_at ws) here) ∙ sym (ap (word_at (ws ++ (w ∷ []))) here ∙ word_at_push ws w))
+            (get_or-set_same tells s (option_or (get_or tells s None) (Some (length ws))) None (omega (arith, h.tells_len))
+            ∙ ap (λ o. option_or o (Some (length ws))) (h.ends s l ∙ ap (word_at ws) here) ∙ sym (ap (word_at (ws ++ (w ∷ []))) here ∙ word_at_push ws w))
         | inr e ↦
-            get_or-set_other tells s u (or_else (get_or tells s None) (Some (length ws))) None e ∙ h.ends u lu
+            get_or-set_other tells s u (option_or (get_or tells s None) (Some (length ws))) None e ∙ h.ends u lu
             ∙ sym (word_at_other ws w (get_or seen u [])
             (same_false (get_or seen u []) w (λ g. e (sym (r.apart u lu) ∙ ap (λ t. place t seen) (g ∙ sym here) ∙ r.apart s l))))
       ];
@@ -169,7 +169,7 @@ ended seen ws w s rows tells r h l here =
 
 -- at the end of a word its number is written down, unless one stands there
 pub putting_all : (ws : List Text) (w : Text) (j s : ℕ) (rows : List ℕ) (tells : List (Option ℕ)) → Putting ws w j s rows tells → j ≡ length w →
-    (tells' : List (Option ℕ)) (n : ℕ) → length ws ≡ n → tells' ≡ set tells s (or_else (get_or tells s None) (Some n)) → TrieOf (ws ++ (w ∷ [])) rows tells'
+    (tells' : List (Option ℕ)) (n : ℕ) → length ws ≡ n → tells' ≡ set tells s (option_or (get_or tells s None) (Some n)) → TrieOf (ws ++ (w ∷ [])) rows tells'
 putting_all ws w j s rows tells q ej tells' n en et =
     let p : Putting ws w (length w) s rows tells = rw ej at q in
     rw (et, ← en, ← sofar_all ws w)

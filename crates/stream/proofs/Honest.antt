@@ -5,8 +5,8 @@ use mathlib.Core.List.Memᴰ
 use Rattle.std.specs.List.{slice_get}
 use Rattle.std.proofs.lemmas.Option.{slice_get-get_or}
 use Rattle.std.proofs.lemmas.Bool.{cases_lt}
+use Rattle.std.specs.Option.{unwrap_or}
 use Rattle.automaton.specs.Text.{Text}
-use Rattle.window.specs.Known.{byte_or}
 use Rattle.window.proofs.PieceLaws.{none-some, none_since, from, start_from, head_from, rest_from, or_either, learn_from, cut_inside}
 use Rattle.stream.specs.Stream.{Stream, blank, up_to, window_end, inner, next_known}
 use Rattle.stream.specs.Steps.{Segment, Arrival, Arrives, Acked, piece_of, fin_at, Outcome, outcome, after, step, passed_by, fins_by, run}
@@ -65,10 +65,10 @@ module _ (width : ℕ) (words : List Text) (source : Source) (s : Stream) (sound
     before_top None h j n e l = l
     before_top (Some f) h j n e l = let lt : j < f = subst (λ (x : Option ℕ). BeforeEnd x j) (h f refl) e in omega arith
 
-    as_said : (j b : ℕ) → source.says j ≡ b → byte_or (s.known j) b ≡ b
+    as_said : (j b : ℕ) → source.says j ≡ b → unwrap_or (s.known j) b ≡ b
     as_said j b e = go (s.known j) refl
       where
-        go : (x : Option ℕ) → s.known j ≡ x → byte_or x b ≡ b
+        go : (x : Option ℕ) → s.known j ≡ x → unwrap_or x b ≡ b
         go None h = refl
         go (Some d) h = sym (from-source.known j d h).0 ∙ e
 

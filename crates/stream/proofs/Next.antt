@@ -5,12 +5,13 @@ use mathlib.Core.List.Memᴰ
 use mathlib.Core.List.{Memᴰ}
 use Rattle.std.proofs.lemmas.List.{append-nil}
 use Rattle.std.proofs.lemmas.Bool.{both_ways, cond_both, cond-true, cond-false, and_from, le-leb, lt-ltb, eq-eqb, ne_eqb}
+use Rattle.std.specs.Option.{option_or, unwrap_or}
 use Rattle.automaton.specs.Text.{Text}
 use Rattle.automaton.specs.Look.{look}
 use Rattle.automaton.proofs.LookLaws.{look_law}
 use Rattle.sequence.specs.declared.Place.{Place}
 use Rattle.sequence.specs.declared.Place.TheVariants.{Below, At}
-use Rattle.window.specs.Known.{Piece, byte_of, byte_or, learn, or_else, overlay, onwards}
+use Rattle.window.specs.Known.{Piece, byte_of, learn, overlay, onwards}
 use Rattle.window.proofs.PieceLaws.{none-some, head_from, from_nil, learn_keeps, learn_from, or_either, overlay_at, overlay_from, known_none, cut_inside, inside-cut, cut_again_lem}
 use Rattle.stream.specs.Stream.{Stream, up_to, window_end, inner, next_known, new_text, none_elsewhere, fin_fits, kept_fin, acknowledged_to}
 use Rattle.stream.specs.Steps.{Segment, Arrival, Arrives, Acked, piece_of, fin_at, fin_left, piece_left, Outcome, Passed, Empty, Word, Closed, on_look, outcome, after, step, piece_in, fin_in, pieces_of, fins_of, passed_by, fins_by}
@@ -63,7 +64,7 @@ module _ (width : ℕ) (words : List Text) (s : Stream) (a : Segment) where
   first = (inner width s (piece_of a)).at
 
   -- each byte inside is left, at its place, and nothing else
-  left_has : (j b : ℕ) → byte_of (piece_of a) j ≡ Some b → Inner width s j → byte_of (piece_left width s a) j ≡ Some (byte_or (s.known j) b)
+  left_has : (j b : ℕ) → byte_of (piece_of a) j ≡ Some b → Inner width s j → byte_of (piece_left width s a) j ≡ Some (unwrap_or (s.known j) b)
   left_has j b e i =
       overlay_at s.known first bytes j b (inside-cut s.low top (piece_of a) j b (record { above = i.above; below = i.below; there = e }))
 
@@ -89,7 +90,7 @@ module _ (width : ℕ) (words : List Text) (s : Stream) (a : Segment) where
       none_elsewhere_lem (Some g) n = eq-eqb g f (n g refl)
 
   done_all : (o : Outcome) → Done width words s a o → (after width s a o).shut ≡ false → (j b : ℕ) → byte_of (piece_of a) j ≡ Some b → Inner width s j →
-      (q : Piece) × Memᴰ q (pieces_of o) × (byte_of q j ≡ Some (byte_or (s.known j) b))
+      (q : Piece) × Memᴰ q (pieces_of o) × (byte_of q j ≡ Some (unwrap_or (s.known j) b))
   done_all _ (closed shut) up j b e i = absurd (both_ways _ up shut)
   done_all _ (word u found l) up j b e i = absurd (both_ways _ up refl)
   done_all _ (empty u l none nofin) up j b e i = absurd (left_some j _ (left_has j b e i) none)
@@ -148,7 +149,7 @@ module _ (width : ℕ) (words : List Text) (s : Stream) (a : Segment) where
     fin_stays _ (empty u l none nofin) f e = e
     fin_stays _ (passes u l) f e = go (fin_left width s a) refl
       where
-        go : (x : Option ℕ) → fin_left width s a ≡ x → or_else x s.fin ≡ Some f
+        go : (x : Option ℕ) → fin_left width s a ≡ x → option_or x s.fin ≡ Some f
         go None h = e
         go (Some g) h = ap Some (sym ((left_fits width words s sound a g h).no_other f e))
 
@@ -190,7 +191,7 @@ module _ (width : ℕ) (words : List Text) (s : Stream) where
       (look words s.text (onwards width (length s.text) (learn i s.known))))
 
   abbrev after_of : Piece → Outcome → Stream
-  after_of i (Passed p fin) = record { low = s.low; known = learn i s.known; text = s.text ++ onwards width (length s.text) (learn i s.known); fin = or_else fin s.fin; shut = false }
+  after_of i (Passed p fin) = record { low = s.low; known = learn i s.known; text = s.text ++ onwards width (length s.text) (learn i s.known); fin = option_or fin s.fin; shut = false }
   after_of i Empty = s
   after_of i (Word found) = record { low = s.low; known = s.known; text = s.text; fin = s.fin; shut = true }
   after_of i Closed = s

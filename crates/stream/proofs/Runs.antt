@@ -6,8 +6,9 @@ use mathlib.Core.List.{Memᴰ}
 use Rattle.std.specs.List.{slice_get}
 use Rattle.std.proofs.lemmas.Option.{slice_get-get_or}
 use Rattle.std.proofs.lemmas.Bool.{both_ways, cases_Bool, cases_lt}
+use Rattle.std.specs.Option.{option_or}
 use Rattle.automaton.specs.Text.{Text}
-use Rattle.window.specs.Known.{Piece, byte_of, or_else}
+use Rattle.window.specs.Known.{Piece, byte_of}
 use Rattle.window.proofs.PieceLaws.{none-some, Extends, start_from, from_same, overlay_known}
 use Rattle.stream.specs.Stream.{Stream, inner}
 use Rattle.stream.specs.Steps.{Segment, Arrival, Arrives, Acked, piece_of, piece_left, Outcome, outcome, after, step, pieces_of, fins_of, passed_by, fins_by, run, passed, fins}
@@ -30,7 +31,7 @@ module _ (width : ℕ) (words : List Text) where
   done_finned s a _ (closed shut) f m = absurd (Memᴰ.not-nil m)
   done_finned s a _ (word u found l) f m = absurd (Memᴰ.not-nil m)
   done_finned s a _ (empty u l none nofin) f m = absurd (Memᴰ.not-nil m)
-  done_finned s a _ (passes u l) f m = ap (λ x. or_else x s.fin) (done_fins width words s a _ (passes u l) f m)
+  done_finned s a _ (passes u l) f m = ap (λ x. option_or x s.fin) (done_fins width words s a _ (passes u l) f m)
 
   step_known : (s : Stream) (a : Arrival) (q : Piece) → Memᴰ q (passed_by width words s a) → Extends (step width words s a).known (byte_of q)
   step_known s (Arrives a) q m = done_known s a (outcome width words s a) (done width words s a) q m

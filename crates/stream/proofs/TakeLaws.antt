@@ -6,15 +6,16 @@ use Rattle.std.proofs.lemmas.List.Edits.{length-between}
 use Rattle.std.proofs.lemmas.List.{length-drop}
 use Rattle.std.proofs.lemmas.Bool.{cases_lt, cond_both, cond-true, cond-false, lt-leb, le-ltb, lt-ltb}
 use Rattle.std.proofs.lemmas.Bool.Decides.{nat_tests}
+use Rattle.std.specs.Option.{option_or}
 use Rattle.automaton.specs.Look.{Found, look}
 use Rattle.automaton.specs.Text.{Text, nonempty}
 use Rattle.sequence.specs.declared.Place.{Place}
 use Rattle.sequence.specs.declared.Place.TheVariants.{Below, At}
 use Rattle.sequence.specs.Places.{place_after, fitting}
-use Rattle.window.specs.Known.{Known, Piece, Within, byte_of, cut, learn, none_known, onwards, or_else, overlay, piece}
+use Rattle.window.specs.Known.{Known, Piece, Within, byte_of, cut, learn, none_known, onwards, overlay, piece}
 use Rattle.window.specs.Shows.{Serves, Shows}
 use Rattle.window.specs.Window.{knows, width}
-use Rattle.window.proofs.KnownLaws.{length-overlay, none_known-same}
+use Rattle.window.proofs.KnownLaws.{length-overlay, none_known-same, or-none}
 use Rattle.window.proofs.PieceLaws.{cut_inside, from_there, none_since, nth_within}
 use Rattle.window.proofs.ShowLaws.{window_serves}
 use Rattle.stream.specs.Looked.{LookOf}
@@ -81,10 +82,6 @@ some-length : (t : List ℕ) → 0 < length t → is_empty t ≡ false
 some-length [] l = absurd (omega arith)
 some-length (x ∷ xs) l = refl
 
-or-none : (o : Option ℕ) → or_else o None ≡ o
-or-none None = refl
-or-none (Some b) = refl
-
 module _ (ws : List Text) (s : Stream) (v : Value) (a : Segment) (r : Part) (h : Shown ws s v) (so : Sound (width v.window) ws s)
     (pa : PartOf v.window.low (width v.window) v.marks.fin a.at (length a.bytes) r) where
   abbrev W : ℕ
@@ -142,7 +139,7 @@ module _ (ws : List Text) (s : Stream) (v : Value) (a : Segment) (r : Part) (h :
 
   same_after : (g : ℕ) → ((j b : ℕ) → byte_of (piece_of a) j ≡ Some b → j < g) → (j : ℕ) → g ≤ j → s.known j ≡ next_known W s (piece_of a) j
   same_after g e j l =
-      sym (ap (or_else (s.known j)) (none_since (byte_of (inner W s (piece_of a)) j)
+      sym (ap (option_or (s.known j)) (none_since (byte_of (inner W s (piece_of a)) j)
       (λ b i. let n = e j b (cut_inside s.low (up_to s.fin (window_end W s)) (piece_of a) j b i).there in omega arith)) ∙ or-none (s.known j))
 
   none-same : (g : ℕ) → ((j b : ℕ) → byte_of (piece_of a) j ≡ Some b → j < g) → s.low ≤ g →
@@ -218,13 +215,13 @@ module _ (ws : List Text) (s : Stream) (v : Value) (a : Segment) (r : Part) (h :
 
     -- The streams
 
-    pub passed_shown : (v' : Value) → v'.marks ≡ record { low = v.marks.low; end = to.end; fin = or_else kept v.marks.fin; state = to.state; shut = v.marks.shut } →
+    pub passed_shown : (v' : Value) → v'.marks ≡ record { low = v.marks.low; end = to.end; fin = option_or kept v.marks.fin; state = to.state; shut = v.marks.shut } →
         v'.window.low ≡ v.window.low → width v'.window ≡ W → ((i : ℕ) → knows v'.window i ≡ learn (piece r.place part) (knows v.window) i) →
         Shown ws (taken W (piece_of a) kept s) v'
     passed_shown v' em el ew ekn = record {
       low = ap (λ m. m.low) em ∙ h.low;
       end = ap (λ m. m.end) em ∙ l.1;
-      fin = ap (λ m. m.fin) em ∙ ap (or_else kept) h.fin;
+      fin = ap (λ m. m.fin) em ∙ ap (option_or kept) h.fin;
       state = ap (λ m. m.state) em ∙ l.2;
       shut = ap (λ m. m.shut) em ∙ h.shut ∙ e;
       window = el ∙ h.window;

@@ -2,11 +2,12 @@
 use Rattle.std.specs.Prelude.{◌≡◌, ℕ, zero, suc, ◌+◌, ◌<◌, ◌≤◌, min, max, Bool, true, false, ◌⊎◌, List, [], ◌∷◌, ◌++◌, length, Some, None, Option, ◌≢◌}
 use mathlib.Core.List.{Memᴰ}
 use Rattle.std.specs.List.{slice_get}
+use Rattle.std.specs.Option.{unwrap_or}
 use Rattle.automaton.specs.Text.{Text, has, nonempty}
 use Rattle.automaton.specs.Look.{Found}
 use Rattle.automaton.specs.LookLaw.{FirstWord}
 use Rattle.sequence.specs.declared.Place.TheVariants.{Below, At}
-use Rattle.window.specs.Known.{Piece, byte_of, byte_or}
+use Rattle.window.specs.Known.{Piece, byte_of}
 use Rattle.stream.specs.Stream.{Stream, blank, window_end, up_to, inner, next_known, ack_limit}
 use Rattle.stream.specs.Steps.{Segment, Arrival, Arrives, Acked, piece_of, fin_at, Word, outcome, step, passed_by, fins_by, run, passed, fins}
 use Rattle.stream.specs.Machine.{Machine, Plays, Given}
@@ -38,7 +39,7 @@ pub record Came (width : ℕ) (s : Stream) (a : Segment) (j d : ℕ) : Type 0 wh
   pub byte : ℕ
   pub there : byte_of (piece_of a) j ≡ Some byte
   pub within : Inner width s j
-  pub known : d ≡ byte_or (s.known j) byte
+  pub known : d ≡ unwrap_or (s.known j) byte
 
 -- the segment's FIN stands at f, in the window, with no FIN known elsewhere and no byte known at or after it
 pub record FinFits (width : ℕ) (s : Stream) (a : Segment) (f : ℕ) : Type 0 where
@@ -53,7 +54,7 @@ pub record FinFits (width : ℕ) (s : Stream) (a : Segment) (f : ℕ) : Type 0 w
 pub record PassedOn (width : ℕ) (s : Stream) (a : Segment) (shut : Bool) (pieces : List Piece) (finished : List ℕ) : Type 0 where
   pub one : length pieces ≤ 1
   pub some : (q : Piece) → Memᴰ q pieces → (j : ℕ) × (d : ℕ) × (byte_of q j ≡ Some d)
-  pub all : shut ≡ false → (j b : ℕ) → byte_of (piece_of a) j ≡ Some b → Inner width s j → (q : Piece) × Memᴰ q pieces × (byte_of q j ≡ Some (byte_or (s.known j) b))
+  pub all : shut ≡ false → (j b : ℕ) → byte_of (piece_of a) j ≡ Some b → Inner width s j → (q : Piece) × Memᴰ q pieces × (byte_of q j ≡ Some (unwrap_or (s.known j) b))
   pub only : (q : Piece) → Memᴰ q pieces → (j d : ℕ) → byte_of q j ≡ Some d → Came width s a j d
   pub fin : shut ≡ false → (f : ℕ) → FinFits width s a f → Memᴰ f finished
   pub fin_only : (f : ℕ) → Memᴰ f finished → FinFits width s a f

@@ -1,9 +1,10 @@
 -- One direction of a stream as the gate knows it, and what becomes of it as bytes come. Assumes nothing.
 use Rattle.std.specs.Prelude.{ℕ, ◌+◌, ◌-◌, min, max, Bool, true, false, cond, ◌&&◌, [], ◌++◌, length, drop, is_some, Some, None, Option, ◌==◌, nat_le, nat_lt}
+use Rattle.std.specs.Option.{option_or}
 use Rattle.automaton.specs.Text.{Text}
 use Rattle.sequence.specs.declared.Place.{Place}
 use Rattle.sequence.specs.declared.Place.TheVariants.{Below, At}
-use Rattle.window.specs.Known.{Known, Piece, cut, learn, or_else, overlay, onwards, none_known}
+use Rattle.window.specs.Known.{Known, Piece, cut, learn, overlay, onwards, none_known}
 
 -- a text from a place on; its bytes below place 0 are left off
 abbrev pub piece_at : Place → Text → Piece
@@ -89,6 +90,6 @@ taken width p fin s = record {
   low = s.low;
   known = next_known width s p;
   text = s.text ++ new_text width s p;
-  fin = or_else fin s.fin;
+  fin = option_or fin s.fin;
   shut = false;
 }

@@ -1,6 +1,6 @@
 // How far one direction of a stream has come.
 ghost use Rattle.std.specs.Prelude.{◌≡◌, ◌<◌, true, false, None};
-ghost use Rattle.window.specs.Known.{or_else};
+ghost use Rattle.std.specs.Option.{option_or};
 ghost use Rattle.stream.specs.Marks.{limit_of, low_after};
 
 use crate::look::Reached;
@@ -56,7 +56,7 @@ impl Marks {
 
     // A segment was passed on: the text ends there then, and a FIN was kept of it or not.
     pub fn grown(self, reached: Reached, fin: Option<u64>) -> Marks
-        ensures { result ≡ record { low = self.low; end = reached.end; fin = or_else fin self.fin; state = reached.state; shut = self.shut } }
+        ensures { result ≡ record { low = self.low; end = reached.end; fin = option_or fin self.fin; state = reached.state; shut = self.shut } }
     {
         Marks {
             end: reached.end,

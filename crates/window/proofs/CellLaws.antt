@@ -6,8 +6,9 @@ use Rattle.std.proofs.lemmas.List.{append-nil, drop_all, take_at, take_rest, ext
 use Rattle.std.proofs.lemmas.Bool.{cases_Bool, cases_lt, both_ways, not-true, not-false}
 use Rattle.std.proofs.lemmas.Bool.Decides.{same_from_decides, Decides-eqb, Decides-like}
 use Rattle.std.proofs.lemmas.Slice.Eq.{slice_eq-Decides}
+use Rattle.std.specs.Option.{unwrap_or}
 use lib.Pointwise.{pointwise}
-use Rattle.window.specs.Known.{Known, inside, byte_or, none_known, on_byte, onwards, overlay}
+use Rattle.window.specs.Known.{Known, inside, none_known, on_byte, onwards, overlay}
 use Rattle.window.specs.Ring.{Agrees, Alike, Front, Overlaid, SetRun, bit, cell}
 use Rattle.window.proofs.KnownLaws.{front_is, get_or-overlay, inside_cases, none_known_decides, onwards_is, overlay_is}
 
@@ -59,7 +60,7 @@ unfolding onwards
 onwards_most zero i f = omega arith
 onwards_most (suc n) i f = on_byte_most (f i) n (onwards n (i + 1) f) (onwards_most n (i + 1) f)
 
-on_byte_front : (o : Option ℕ) (b : ℕ) (more left : List ℕ) → more ≡ take (length more) left → on_byte more o ≡ take (length (on_byte more o)) (byte_or o b ∷ left)
+on_byte_front : (o : Option ℕ) (b : ℕ) (more left : List ℕ) → more ≡ take (length more) left → on_byte more o ≡ take (length (on_byte more o)) (unwrap_or o b ∷ left)
 on_byte_front None b more left h = refl
 on_byte_front (Some x) b more left h = ap (λ xs. x ∷ xs) h
 

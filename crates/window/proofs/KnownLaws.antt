@@ -4,7 +4,8 @@ use Rattle.std.proofs.lemmas.List.{ext_get_or, get_or-drop, get_or-take, length-
 use Rattle.std.proofs.lemmas.Option.{slice_get-get_or, slice_get_past}
 use Rattle.std.proofs.lemmas.Bool.{and_parts, both_ways, cases_lt, le-leb, lt-leb}
 use Rattle.std.proofs.lemmas.Bool.Decides.{nat_tests}
-use Rattle.window.specs.Known.{Known, Within, piece, inside, byte_of, or_else, learn, byte_or, overlay, onwards, none_known}
+use Rattle.std.specs.Option.{option_or, unwrap_or}
+use Rattle.window.specs.Known.{Known, Within, piece, inside, byte_of, learn, overlay, onwards, none_known}
 
 pub inside_from : (i n j : ℕ) → i ≤ j → j < i + n → inside i n j ≡ true
 inside_from i n j h k = grind (arith, nat_tests)
@@ -38,35 +39,35 @@ unfolding overlay
 length-overlay f i [] = refl
 length-overlay f i (b ∷ bs) = ap suc (length-overlay f (i + 1) bs)
 
-pub get_or-overlay : (f : Known) (i : ℕ) (bs : List ℕ) (k : ℕ) → k < length bs → get_or (overlay f i bs) k 0 ≡ byte_or (f (i + k)) (get_or bs k 0)
+pub get_or-overlay : (f : Known) (i : ℕ) (bs : List ℕ) (k : ℕ) → k < length bs → get_or (overlay f i bs) k 0 ≡ unwrap_or (f (i + k)) (get_or bs k 0)
 unfolding overlay
 get_or-overlay f i [] k h = absurd (omega arith)
-get_or-overlay f i (b ∷ bs) zero h = ap (λ j. byte_or (f j) b) (omega arith)
-get_or-overlay f i (b ∷ bs) (suc k) h = get_or-overlay f (i + 1) bs k (omega arith) ∙ ap (λ j. byte_or (f j) (get_or bs k 0)) (omega arith)
+get_or-overlay f i (b ∷ bs) zero h = ap (λ j. unwrap_or (f j) b) (omega arith)
+get_or-overlay f i (b ∷ bs) (suc k) h = get_or-overlay f (i + 1) bs k (omega arith) ∙ ap (λ j. unwrap_or (f j) (get_or bs k 0)) (omega arith)
 
 -- the only list of that length with those bytes
 pub overlay_is : (f : Known) (i : ℕ) (bs xs : List ℕ) → length xs ≡ length bs
-    → ((k : ℕ) → k < length bs → get_or xs k 0 ≡ byte_or (f (i + k)) (get_or bs k 0)) → xs ≡ overlay f i bs
+    → ((k : ℕ) → k < length bs → get_or xs k 0 ≡ unwrap_or (f (i + k)) (get_or bs k 0)) → xs ≡ overlay f i bs
 overlay_is f i bs xs e each =
     ext_get_or 0 xs (overlay f i bs) (e ∙ sym (length-overlay f i bs)) (λ k m. each k (omega arith) ∙ sym (get_or-overlay f i bs k (omega arith)))
 
 -- the first bytes of what is overlaid
 pub front_is : (f : Known) (i : ℕ) (bs xs : List ℕ) → length xs ≤ length bs
-    → ((k : ℕ) → k < length xs → get_or xs k 0 ≡ byte_or (f (i + k)) (get_or bs k 0)) → xs ≡ take (length xs) (overlay f i bs)
+    → ((k : ℕ) → k < length xs → get_or xs k 0 ≡ unwrap_or (f (i + k)) (get_or bs k 0)) → xs ≡ take (length xs) (overlay f i bs)
 front_is f i bs xs h each =
     ext_get_or 0 xs (take (length xs) (overlay f i bs)) (simp (length-take, length-overlay) (omega arith))
     (λ k m. each k m ∙ sym (get_or-take (length xs) (overlay f i bs) k 0 m ∙ get_or-overlay f i bs k (omega arith)))
 
 -- what is known keeps its byte, also where it is asked for twice
-byte_or_twice : (x : Option ℕ) (b : ℕ) → byte_or x (byte_or x b) ≡ byte_or x b
-byte_or_twice None b = refl
-byte_or_twice (Some c) b = refl
+unwrap_or_twice : (x : Option ℕ) (b : ℕ) → unwrap_or x (unwrap_or x b) ≡ unwrap_or x b
+unwrap_or_twice None b = refl
+unwrap_or_twice (Some c) b = refl
 
 -- what was overlaid stays as it is
 pub overlay_twice : (f : Known) (i : ℕ) (bs : List ℕ) → overlay f i (overlay f i bs) ≡ overlay f i bs
 unfolding overlay
 overlay_twice f i [] = refl
-overlay_twice f i (b ∷ bs) = rw (byte_or_twice (f i) b, overlay_twice f (i + 1) bs)
+overlay_twice f i (b ∷ bs) = rw (unwrap_or_twice (f i) b, overlay_twice f (i + 1) bs)
 
 -- only the places from i on matter to what is overlaid, read onwards or looked for from there
 module _ (f g : Known) where
@@ -85,38 +86,38 @@ module _ (f g : Known) where
   none_known-same zero i same = refl
   none_known-same (suc n) i same = rw (same i (omega arith), none_known-same n (i + 1) (λ j h. same j (omega arith)))
 
-or_else-none : (x : Option ℕ) → or_else x None ≡ x
-or_else-none None = refl
-or_else-none (Some b) = refl
+pub or-none : (x : Option ℕ) → option_or x None ≡ x
+or-none None = refl
+or-none (Some b) = refl
 
-or_else-byte_or : (x : Option ℕ) (b : ℕ) → or_else x (Some (byte_or x b)) ≡ or_else x (Some b)
-or_else-byte_or None b = refl
-or_else-byte_or (Some c) b = refl
+or-unwrap_or : (x : Option ℕ) (b : ℕ) → option_or x (Some (unwrap_or x b)) ≡ option_or x (Some b)
+or-unwrap_or None b = refl
+or-unwrap_or (Some c) b = refl
 
-or_else-some : (x : Option ℕ) (b : ℕ) → or_else x (Some b) ≡ Some (byte_or x b)
-or_else-some None b = refl
-or_else-some (Some c) b = refl
+pub or-some : (x : Option ℕ) (b : ℕ) → option_or x (Some b) ≡ Some (unwrap_or x b)
+or-some None b = refl
+or-some (Some c) b = refl
 
-or_else_fixed : (x : Option ℕ) (b : ℕ) → b ≡ byte_or x b → or_else x (Some b) ≡ Some b
-or_else_fixed None b e = refl
-or_else_fixed (Some c) b e = ap Some (sym e)
+or_fixed : (x : Option ℕ) (b : ℕ) → b ≡ unwrap_or x b → option_or x (Some b) ≡ Some b
+or_fixed None b e = refl
+or_fixed (Some c) b e = ap Some (sym e)
 
 module _ (i : ℕ) (bs : List ℕ) (f : Known) (j : ℕ) where
   -- a piece teaches nothing of the places that it does not cover
   pub learn_outside : inside i (length bs) j ≡ false → learn (piece i bs) f j ≡ f j
-  learn_outside out = ap (or_else (f j)) (byte_of_at i bs j ∙ rw out) ∙ or_else-none (f j)
+  learn_outside out = ap (option_or (f j)) (byte_of_at i bs j ∙ rw out) ∙ or-none (f j)
 
-  pub learn-inside : i ≤ j → j < i + length bs → learn (piece i bs) f j ≡ or_else (f j) (Some (get_or bs (j - i) 0))
-  learn-inside h l = ap (or_else (f j)) (byte_of_at i bs j ∙ rw (inside_from i (length bs) j h l))
+  pub learn-inside : i ≤ j → j < i + length bs → learn (piece i bs) f j ≡ option_or (f j) (Some (get_or bs (j - i) 0))
+  learn-inside h l = ap (option_or (f j)) (byte_of_at i bs j ∙ rw (inside_from i (length bs) j h l))
 
 -- a piece that was overlaid teaches what the piece teaches
 pub learn-overlay : (i : ℕ) (bs : List ℕ) (f : Known) (j : ℕ) → learn (piece i (overlay f i bs)) f j ≡ learn (piece i bs) f j
 learn-overlay i bs f j = elim (inside_cases i (length bs) j) [
   | inl t ↦
-      let at : get_or (overlay f i bs) (j - i) 0 ≡ byte_or (f j) (get_or bs (j - i) 0) =
-      get_or-overlay f i bs (j - i) (omega arith) ∙ ap (λ k. byte_or (f k) (get_or bs (j - i) 0)) (omega arith) in
+      let at : get_or (overlay f i bs) (j - i) 0 ≡ unwrap_or (f j) (get_or bs (j - i) 0) =
+      get_or-overlay f i bs (j - i) (omega arith) ∙ ap (λ k. unwrap_or (f k) (get_or bs (j - i) 0)) (omega arith) in
       learn-inside i (overlay f i bs) f j t.1 (omega (arith, length-overlay f i bs))
-      ∙ ap (λ b. or_else (f j) (Some b)) at ∙ or_else-byte_or (f j) (get_or bs (j - i) 0) ∙ sym (learn-inside i bs f j t.1 t.2)
+      ∙ ap (λ b. option_or (f j) (Some b)) at ∙ or-unwrap_or (f j) (get_or bs (j - i) 0) ∙ sym (learn-inside i bs f j t.1 t.2)
   | inr t ↦ learn_outside i (overlay f i bs) f j (rw (length-overlay f i bs) t.0) ∙ sym (learn_outside i bs f j t.0)
 ]
 
@@ -128,9 +129,9 @@ written i bs f j = cond (inside i (length bs) j) (Some (get_or bs (j - i) 0)) (f
 pub written-learn : (i : ℕ) (bs : List ℕ) (f : Known) → bs ≡ overlay f i bs → (j : ℕ) → written i bs f j ≡ learn (piece i bs) f j
 written-learn i bs f e j = elim (inside_cases i (length bs) j) [
   | inl t ↦
-      let at : get_or bs (j - i) 0 ≡ byte_or (f j) (get_or bs (j - i) 0) =
-      ap (λ xs. get_or xs (j - i) 0) e ∙ get_or-overlay f i bs (j - i) (omega arith) ∙ ap (λ k. byte_or (f k) (get_or bs (j - i) 0)) (omega arith) in
-      rw t.0 (sym (learn-inside i bs f j t.1 t.2 ∙ or_else_fixed (f j) (get_or bs (j - i) 0) at))
+      let at : get_or bs (j - i) 0 ≡ unwrap_or (f j) (get_or bs (j - i) 0) =
+      ap (λ xs. get_or xs (j - i) 0) e ∙ get_or-overlay f i bs (j - i) (omega arith) ∙ ap (λ k. unwrap_or (f k) (get_or bs (j - i) 0)) (omega arith) in
+      rw t.0 (sym (learn-inside i bs f j t.1 t.2 ∙ or_fixed (f j) (get_or bs (j - i) 0) at))
   | inr t ↦ rw t.0 (sym (learn_outside i bs f j t.0))
 ]
 
@@ -210,7 +211,7 @@ onwards_text (suc n) i f (x ∷ xs) h known =
 pub learn_overlaid : (i : ℕ) (bs : List ℕ) (f : Known) (k : ℕ) → k < length bs → learn (piece i bs) f (i + k) ≡ Some (get_or (overlay f i bs) k 0)
 learn_overlaid i bs f k h =
     let on : i + k - i ≡ k = omega arith in
-    learn-inside i bs f (i + k) (omega arith) (omega arith) ∙ rw on (or_else-some (f (i + k)) (get_or bs k 0) ∙ ap Some (sym (get_or-overlay f i bs k h)))
+    learn-inside i bs f (i + k) (omega arith) (omega arith) ∙ rw on (or-some (f (i + k)) (get_or bs k 0) ∙ ap Some (sym (get_or-overlay f i bs k h)))
 
 -- what a piece adds to a text that ends at one of its places, or right after it: the rest of what is passed on of it, and what was known from there on
 pub onwards-learn : (n i j : ℕ) (bs : List ℕ) (f : Known) → i ≤ j → j ≤ i + length bs → i + length bs - j ≤ n

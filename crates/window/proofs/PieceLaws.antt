@@ -4,8 +4,9 @@ use Rattle.std.proofs.Common.{◌≡◌, ℕ, zero, suc, ◌+◌, ◌-◌, ◌<�
 use Rattle.std.specs.List.{slice_get}
 use Rattle.std.proofs.lemmas.List.{length-take, take_all}
 use Rattle.std.proofs.lemmas.Bool.{both_ways, le-leb, leb-true, cond-true, cond_both}
-use Rattle.window.specs.Known.{Known, Piece, byte_of, or_else, cut, learn, byte_or, overlay, on_byte, onwards, none_known}
-use Rattle.window.proofs.KnownLaws.{none_known_decides}
+use Rattle.std.specs.Option.{option_or, unwrap_or}
+use Rattle.window.specs.Known.{Known, Piece, byte_of, cut, learn, overlay, on_byte, onwards, none_known}
+use Rattle.window.proofs.KnownLaws.{none_known_decides, or-some}
 
 pub none-some : {A : Type 0} {x : Option A} {a : A} → x ≡ None → x ≡ Some a → ⊥
 none-some {x = x} e h = both_ways (is_some x) (ap is_some e) (ap is_some h)
@@ -99,10 +100,10 @@ from_same f i (x ∷ s) (y ∷ t) a b l =
 
 -- what is known stays known
 pub learn_keeps : (p : Piece) (f : Known) → Extends (learn p f) f
-learn_keeps p f j b e = ap (λ x. or_else x (byte_of p j)) e
+learn_keeps p f j b e = ap (λ x. option_or x (byte_of p j)) e
 
 -- what is known then was known before, or the piece says it
-pub or_either : (x y : Option ℕ) (b : ℕ) → or_else x y ≡ Some b → (x ≡ Some b) ⊎ (y ≡ Some b)
+pub or_either : (x y : Option ℕ) (b : ℕ) → option_or x y ≡ Some b → (x ≡ Some b) ⊎ (y ≡ Some b)
 or_either None y b e = inr e
 or_either (Some c) y b e = inl e
 
@@ -110,37 +111,33 @@ pub learn_from : (p : Piece) (f : Known) (j b : ℕ) → learn p f j ≡ Some b 
 learn_from p f j b e = or_either (f j) (byte_of p j) b e
 
 pub learn-none : (p : Piece) (f : Known) (j : ℕ) → f j ≡ None → byte_of p j ≡ None → learn p f j ≡ None
-learn-none p f j a b = ap₂ or_else a b
+learn-none p f j a b = ap₂ option_or a b
 
 -- What is passed on
 
 -- each byte goes out at its place, unless another is known there
-pub overlay_at : (f : Known) (i : ℕ) (bs : List ℕ) (j b : ℕ) → from i bs j ≡ Some b → from i (overlay f i bs) j ≡ Some (byte_or (f j) b)
+pub overlay_at : (f : Known) (i : ℕ) (bs : List ℕ) (j b : ℕ) → from i bs j ≡ Some b → from i (overlay f i bs) j ≡ Some (unwrap_or (f j) b)
 unfolding overlay
 overlay_at f i [] j b e = absurd (from_nil i j b e)
 overlay_at f i (x ∷ bs) j b e =
-    ⊎_elim (λ (p, q). rw (p, ← q) (head_from i (byte_or (f i) x) (overlay f (i + 1) bs)))
-    (λ h. rest_from i (byte_or (f i) x) (overlay f (i + 1) bs) j (byte_or (f j) b) (overlay_at f (i + 1) bs j b h))
+    ⊎_elim (λ (p, q). rw (p, ← q) (head_from i (unwrap_or (f i) x) (overlay f (i + 1) bs)))
+    (λ h. rest_from i (unwrap_or (f i) x) (overlay f (i + 1) bs) j (unwrap_or (f j) b) (overlay_at f (i + 1) bs j b h))
     (from_cons i x bs j b e)
 
 -- and nothing else goes out
-pub overlay_from : (f : Known) (i : ℕ) (bs : List ℕ) (j d : ℕ) → from i (overlay f i bs) j ≡ Some d → (b : ℕ) × (from i bs j ≡ Some b) × (d ≡ byte_or (f j) b)
+pub overlay_from : (f : Known) (i : ℕ) (bs : List ℕ) (j d : ℕ) → from i (overlay f i bs) j ≡ Some d → (b : ℕ) × (from i bs j ≡ Some b) × (d ≡ unwrap_or (f j) b)
 unfolding overlay
 overlay_from f i [] j d e = absurd (from_nil i j d e)
 overlay_from f i (x ∷ bs) j d e =
     ⊎_elim (λ (p, q). (x, rw p (head_from i x bs), sym (rw p q)))
     (λ h. let r = overlay_from f (i + 1) bs j d h in (r.0, rest_from i x bs j r.0 r.1, r.2))
-    (from_cons i (byte_or (f i) x) (overlay f (i + 1) bs) j d e)
-
-or_some : (x : Option ℕ) (b : ℕ) → or_else x (Some b) ≡ Some (byte_or x b)
-or_some None b = refl
-or_some (Some c) b = refl
+    (from_cons i (unwrap_or (f i) x) (overlay f (i + 1) bs) j d e)
 
 -- what goes out is what is known then
 pub overlay_known : (f : Known) (i : ℕ) (bs : List ℕ) → Extends (learn (record { at = i; bytes = bs }) f) (from i (overlay f i bs))
 overlay_known f i bs j d e =
     let r = overlay_from f i bs j d e in
-    ap (or_else (f j)) r.1 ∙ (or_some (f j) r.0 ∙ ap Some (sym r.2))
+    ap (option_or (f j)) r.1 ∙ (or-some (f j) r.0 ∙ ap Some (sym r.2))
 
 -- The bytes known without a gap from a place on
 

@@ -1,6 +1,7 @@
 -- Bytes at the places of a stream, which come in pieces, in any order and not always alike. Assumes nothing.
 use Rattle.std.specs.Prelude.{ℕ, zero, suc, ◌+◌, ◌-◌, ◌<◌, ◌≤◌, max, Bool, true, cond, not, ◌&&◌, List, [], ◌∷◌, take, drop, is_some, Some, None, Option, nat_le, nat_lt}
 use Rattle.std.specs.List.{slice_get}
+use Rattle.std.specs.Option.{option_or, unwrap_or}
 
 -- the bytes known so far, each at its place
 abbrev pub Known : Type 0
@@ -27,10 +28,6 @@ pub record Within (low width i n : ℕ) : Type 0 where
 abbrev pub byte_of : Piece → Known
 byte_of p j = cond (nat_le p.at j) (slice_get p.bytes (j - p.at)) None
 
-abbrev pub or_else : Option ℕ → Option ℕ → Option ℕ
-or_else (Some b) c = Some b
-or_else None c = c
-
 -- the part of a piece from low up to top
 abbrev pub cut : ℕ → ℕ → Piece → Piece
 cut low top p = record {
@@ -40,16 +37,12 @@ cut low top p = record {
 
 -- a place that is known keeps its byte, another one gets that of the piece
 abbrev pub learn : Piece → Known → Known
-learn p known j = or_else (known j) (byte_of p j)
-
-abbrev pub byte_or : Option ℕ → ℕ → ℕ
-byte_or None b = b
-byte_or (Some c) b = c
+learn p known j = option_or (known j) (byte_of p j)
 
 -- bytes from place i on, with the known byte in place of what came
 unfoldable pub overlay : Known → ℕ → List ℕ → List ℕ
 overlay known i [] = []
-overlay known i (b ∷ bs) = byte_or (known i) b ∷ overlay known (i + 1) bs
+overlay known i (b ∷ bs) = unwrap_or (known i) b ∷ overlay known (i + 1) bs
 
 -- what is left of what is known once the places below low are forgotten
 abbrev pub forget : ℕ → Known → Known
