@@ -6,86 +6,86 @@ use std::test::Fail;
 struct LookCase {
     list: &'static [u8],
     text: &'static [u8],
-    finding: Result<u16, Match>,
+    found: Result<u16, Match>,
 }
 
 const LOOK_CASES: [LookCase; 14] = [
     LookCase {
         list: b"\x02\x03abc\x02bd",
         text: b"ab",
-        finding: Ok(2),
+        found: Ok(2),
     },
     LookCase {
         list: b"\x02\x03abc\x02bd",
         text: b"xabcd",
-        finding: Err(Match { at: 3, word: 0 }),
+        found: Err(Match { at: 3, word: 0 }),
     },
     // one word goes on within another
     LookCase {
         list: b"\x02\x03abc\x02bd",
         text: b"abd",
-        finding: Err(Match { at: 2, word: 1 }),
+        found: Err(Match { at: 2, word: 1 }),
     },
     LookCase {
         list: b"\x02\x03abc\x02bd",
         text: b"",
-        finding: Ok(0),
+        found: Ok(0),
     },
     LookCase {
         list: b"\x01\x03aab",
         text: b"aaab",
-        finding: Err(Match { at: 3, word: 0 }),
+        found: Err(Match { at: 3, word: 0 }),
     },
     // a word inside another
     LookCase {
         list: b"\x02\x04abcd\x02bc",
         text: b"abcd",
-        finding: Err(Match { at: 2, word: 1 }),
+        found: Err(Match { at: 2, word: 1 }),
     },
     LookCase {
         list: b"\x02\x04abcd\x01c",
         text: b"abx",
-        finding: Ok(0),
+        found: Ok(0),
     },
     // words that share beginnings
     LookCase {
         list: b"\x03\x03abc\x03abd\x02xa",
         text: b"ababd",
-        finding: Err(Match { at: 4, word: 1 }),
+        found: Err(Match { at: 4, word: 1 }),
     },
     LookCase {
         list: b"\x02\x04abcd\x02ab",
         text: b"xxab",
-        finding: Err(Match { at: 3, word: 1 }),
+        found: Err(Match { at: 3, word: 1 }),
     },
     // the longest of those that end at one place, wherever it stands in the list
     LookCase {
         list: b"\x03\x01c\x03abc\x02bc",
         text: b"abc",
-        finding: Err(Match { at: 2, word: 1 }),
+        found: Err(Match { at: 2, word: 1 }),
     },
     // words of one byte
     LookCase {
         list: b"\x02\x01\x00\x01\xff",
         text: b"ab\xff\x00",
-        finding: Err(Match { at: 2, word: 1 }),
+        found: Err(Match { at: 2, word: 1 }),
     },
     LookCase {
         list: b"\x01\x01a",
         text: b"bcd",
-        finding: Ok(0),
+        found: Ok(0),
     },
     // no words
     LookCase {
         list: b"\x00",
         text: b"abc",
-        finding: Ok(0),
+        found: Ok(0),
     },
     // what comes after the list does not count
     LookCase {
         list: b"\x01\x01a\x01b",
         text: b"b",
-        finding: Ok(0),
+        found: Ok(0),
     },
 ];
 
@@ -165,7 +165,7 @@ fn looks(rt: HostRuntime) -> Result<(), Fail> {
     for case in &LOOK_CASES {
         let (list, _) = WordList::read(heap, case.list)?;
         let table = Table::build(heap, &list)?;
-        assert_eq!(rt; table.look(0, case.text), case.finding);
+        assert_eq!(rt; table.look(0, case.text), case.found);
     }
     Ok(())
 }
@@ -245,12 +245,12 @@ fn every_byte(rt: HostRuntime) -> Result<(), Fail> {
     let (list, _) = WordList::read(heap, &numbered(heap, 128, 1)?)?;
     let table = Table::build(heap, &list)?;
     for b in 0..=255u8 {
-        let finding = if b < 128 {
+        let found = if b < 128 {
             Err(Match { at: 0, word: b })
         } else {
             Ok(0)
         };
-        assert_eq!(rt; table.look(0, &[b]), finding);
+        assert_eq!(rt; table.look(0, &[b]), found);
     }
     Ok(())
 }

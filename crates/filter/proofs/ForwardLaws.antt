@@ -31,9 +31,9 @@ use Rattle.stream.specs.Stream as streams
 use Rattle.stream.specs.Stream.{Stream, blank, inner, passed_part, places}
 use Rattle.stream.specs.Took.{Cuts, Differs, Took}
 use Rattle.stream.specs.declared.stream.Stream.{Stream as StreamValue}
-use Rattle.stream.specs.declared.taken.Passed.{Passed as Part}
-use Rattle.stream.specs.declared.taken.Refused.{Refused as Untaken}
-use Rattle.stream.specs.declared.taken.Refused.TheVariants as untaken
+use Rattle.stream.specs.declared.answer.Passed.{Passed as Part}
+use Rattle.stream.specs.declared.answer.Refused.{Refused as Untaken}
+use Rattle.stream.specs.declared.answer.Refused.TheVariants as untaken
 use Rattle.stream.proofs.Kept.{promise}
 use Rattle.stream.proofs.MarkLaws.{text_fits}
 use Rattle.stream.proofs.Outcomes.{Done, closed, done, empty, passes, word}
@@ -47,9 +47,9 @@ use Rattle.filter.specs.Dropped.{dropped_for}
 use Rattle.filter.specs.Gate as gate
 use Rattle.filter.specs.Held.{Handles, Held, Left}
 use Rattle.filter.specs.Verdict.{Refuse, Update}
-use Rattle.filter.specs.declared.verdict.Refusal.TheVariants as refusal
-use Rattle.filter.specs.declared.verdict.Refusal.{Refusal}
-use Rattle.filter.specs.declared.verdict.Dropped.TheVariants as dropped
+use Rattle.filter.specs.declared.dropped.Refusal.TheVariants as refusal
+use Rattle.filter.specs.declared.dropped.Refusal.{Refusal}
+use Rattle.filter.specs.declared.dropped.Dropped.TheVariants as dropped
 use Rattle.filter.specs.declared.connection.Connection.{Connection as Value}
 
 ok_is : {A B : Type 0} {x y : A} → ◌≡◌ {A = Result A B} (Ok x) (Ok y) → x ≡ y

@@ -1,9 +1,9 @@
 -- Why a packet does not go out. Assumes nothing.
-use Rattle.stream.specs.declared.taken.Refused.{Refused as Untaken}
-use Rattle.stream.specs.declared.taken.Refused.TheVariants as untaken
-use Rattle.filter.specs.declared.verdict.Dropped.{Dropped}
-use Rattle.filter.specs.declared.verdict.Dropped.TheVariants.{Refused, Word}
-use Rattle.filter.specs.declared.verdict.Refusal.TheVariants.{Shut}
+use Rattle.stream.specs.declared.answer.Refused.{Refused as Untaken}
+use Rattle.stream.specs.declared.answer.Refused.TheVariants as untaken
+use Rattle.filter.specs.declared.dropped.Dropped.{Dropped}
+use Rattle.filter.specs.declared.dropped.Dropped.TheVariants.{Refused, Word}
+use Rattle.filter.specs.declared.dropped.Refusal.TheVariants.{Shut}
 
 -- why a segment does not go out of which its stream takes nothing
 abbrev pub dropped_for : Untaken → Dropped

@@ -4,9 +4,9 @@ use Rattle.std.specs.Option.{option_or}
 use Rattle.packet.specs.declared.edit.Edit.{Edit}
 use Rattle.packet.specs.declared.segment.Segment.{Segment}
 use Rattle.sequence.specs.Places.{number_of}
-use Rattle.stream.specs.declared.taken.Passed.{Passed}
-use Rattle.filter.specs.declared.verdict.Refusal.{Refusal}
-use Rattle.filter.specs.declared.verdict.Refusal.TheVariants.{Empty}
+use Rattle.stream.specs.declared.answer.Passed.{Passed}
+use Rattle.filter.specs.declared.dropped.Refusal.{Refusal}
+use Rattle.filter.specs.declared.dropped.Refusal.TheVariants.{Empty}
 
 -- the number of a place, or the one that came
 abbrev pub number_at : ℕ → ℕ → Option ℕ → ℕ

@@ -17,10 +17,10 @@ use Rattle.filter.specs.Decide.{acknowledges, on_segment, reset_to_loom, reset_t
 use Rattle.filter.specs.Gate.{Connection, closed}
 use Rattle.filter.specs.Verdict.{Refuse, Shut, Update}
 use Rattle.filter.specs.declared.connection.Connection.{Connection as Value}
-use Rattle.filter.specs.declared.verdict.Refusal.{Refusal}
-use Rattle.filter.specs.declared.verdict.Refusal.TheVariants as refusal
-use Rattle.filter.specs.declared.verdict.Dropped.{Dropped}
-use Rattle.filter.specs.declared.verdict.Dropped.TheVariants as dropped
+use Rattle.filter.specs.declared.dropped.Refusal.{Refusal}
+use Rattle.filter.specs.declared.dropped.Refusal.TheVariants as refusal
+use Rattle.filter.specs.declared.dropped.Dropped.{Dropped}
+use Rattle.filter.specs.declared.dropped.Dropped.TheVariants as dropped
 
 -- the number of each refusal
 abbrev pub refusal_number : Refusal → ℕ

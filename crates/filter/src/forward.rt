@@ -11,7 +11,7 @@ ghost use Rattle.filter.specs.Forwards.{Inside, edit_left, number_at};
 ghost use Rattle.filter.specs.Held.{Handles, Held, Left};
 
 use crate::connection::Connection;
-use crate::verdict::{Dropped, Refusal};
+use crate::dropped::{Dropped, Refusal};
 use automaton::Table;
 use packet::edit::{Edit, Patch};
 use packet::rewrite::rewrite;

@@ -3,10 +3,10 @@
 
 mod acknowledge;
 mod connection;
+mod dropped;
 mod forward;
 pub mod laws;
 mod side;
-mod verdict;
 
+pub use dropped::{Dropped, Refusal};
 pub use side::{NoSuchSide, Side};
-pub use verdict::{Dropped, Refusal};

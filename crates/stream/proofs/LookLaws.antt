@@ -6,13 +6,13 @@ use Rattle.automaton.specs.Look.{look}
 use Rattle.automaton.specs.States.{run}
 use Rattle.automaton.specs.Text.{Text}
 use Rattle.stream.specs.declared.look.Reached.{Reached}
-use Rattle.stream.specs.declared.taken.WordAt.{WordAt}
+use Rattle.stream.specs.declared.answer.WordAt.{WordAt}
 use Rattle.automaton.proofs.JudgedLaws.{look-append}
 use Rattle.automaton.proofs.Looks.{look_on}
 use Rattle.window.specs.Known.{Known, learn, on_byte, onwards, overlay, piece}
 use Rattle.window.specs.Ring.{Front}
 use Rattle.window.proofs.KnownLaws.{inside-above, inside_below, learn_outside, onwards_enough, onwards-learn, onwards-none}
-use Rattle.stream.specs.Looked.{LookOf}
+use Rattle.stream.specs.Look.{LookOf}
 
 pub overlay-drop : (f : Known) (i n : ℕ) (bs : List ℕ) → n ≤ length bs → overlay f (i + n) (drop n bs) ≡ drop n (overlay f i bs)
 unfolding overlay

@@ -18,7 +18,7 @@ use Rattle.window.specs.Window.{knows, width}
 use Rattle.window.proofs.KnownLaws.{length-overlay, none_known-same, or-none}
 use Rattle.window.proofs.PieceLaws.{cut_inside, from_there, none_since, nth_within}
 use Rattle.window.proofs.ShowLaws.{window_serves}
-use Rattle.stream.specs.Looked.{LookOf}
+use Rattle.stream.specs.Look.{LookOf}
 use Rattle.stream.specs.Part.{PartOf, fin_may_stand, kept_if}
 use Rattle.stream.specs.Promise.{Sound}
 use Rattle.stream.specs.Shown.{Answer, Shown, Stands, outcome_of}
@@ -26,7 +26,7 @@ use Rattle.stream.specs.Took.{Cuts, Differs, Took}
 use Rattle.stream.specs.Steps.{Arrival, Arrives, Closed, Empty, Outcome, Passed, Segment, Word, after, fin_left, is_empty, on_look, outcome, piece_left, piece_of, run, step}
 use Rattle.stream.specs.Stream.{Stream, blank, fin_fits, inner, kept_fin, new_text, next_known, none_elsewhere, passed_part, piece_at, places, shut_down, taken, up_to, window_end}
 use Rattle.stream.specs.declared.look.Reached.{Reached}
-use Rattle.stream.specs.declared.taken.WordAt.{WordAt}
+use Rattle.stream.specs.declared.answer.WordAt.{WordAt}
 use Rattle.stream.specs.declared.part.Part.{Part}
 use Rattle.stream.specs.declared.stream.Stream.{Stream as Value}
 use Rattle.stream.proofs.Kept.{promise}

@@ -1,5 +1,5 @@
 pub mod Cases
-pub mod Looked
+pub mod Look
 pub mod Machine
 pub mod Marks
 pub mod Part

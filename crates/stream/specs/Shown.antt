@@ -8,9 +8,9 @@ use Rattle.window.specs.Window.{knows, width}
 use Rattle.stream.specs.Stream.{Stream, blank}
 use Rattle.stream.specs.Steps.{Arrival, Outcome, Passed, Empty, Word, Closed, run}
 use Rattle.stream.specs.declared.stream.Stream.{Stream as Value}
-use Rattle.stream.specs.declared.taken.Passed.{Passed as Part}
-use Rattle.stream.specs.declared.taken.Refused.{Refused}
-use Rattle.stream.specs.declared.taken.Refused.TheVariants as refused
+use Rattle.stream.specs.declared.answer.Passed.{Passed as Part}
+use Rattle.stream.specs.declared.answer.Refused.{Refused}
+use Rattle.stream.specs.declared.answer.Refused.TheVariants as refused
 
 -- the value has the model's marks, the state of the look after its text, and in the ring what is known inside the window
 pub record Shown (ws : List Text) (s : Stream) (v : Value) : Type 0 where

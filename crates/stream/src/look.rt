@@ -5,9 +5,9 @@ ghost use Rattle.automaton.specs.Tables.{TableOf};
 ghost use Rattle.automaton.specs.Text.{Text};
 ghost use Rattle.window.specs.Known.{Within, learn, onwards, overlay, piece};
 ghost use Rattle.window.specs.Window.{knows, width};
-ghost use Rattle.stream.specs.Looked.{LookOf};
+ghost use Rattle.stream.specs.Look.{LookOf};
 
-use crate::taken::WordAt;
+use crate::answer::WordAt;
 use automaton::Table;
 use window::Window;
 

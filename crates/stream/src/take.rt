@@ -9,11 +9,11 @@ ghost use Rattle.stream.specs.Steps.{Acked, Arrival, run};
 ghost use Rattle.stream.specs.Stream.{ack_limit, blank, piece_at};
 ghost use Rattle.stream.specs.Took.{Differs, Followed, Made, Took};
 
+use crate::answer::{Passed, Refused};
 use crate::look::look;
 use crate::marks::Marks;
 use crate::part::Part;
 use crate::stream::Stream;
-use crate::taken::{Passed, Refused};
 use automaton::Table;
 use sequence::Place;
 use std::alloc::Global;

@@ -7,9 +7,9 @@ use Rattle.automaton.specs.Text.{Text}
 use Rattle.window.specs.Known.{Within, learn, onwards, overlay, piece}
 use Rattle.window.specs.Window.{knows, width}
 use Rattle.window.specs.declared.Window.{Window}
-use Rattle.stream.specs.Looked.{LookOf}
+use Rattle.stream.specs.Look.{LookOf}
 use Rattle.stream.specs.declared.look.Reached.{Reached}
-use Rattle.stream.specs.declared.taken.WordAt.{WordAt}
+use Rattle.stream.specs.declared.answer.WordAt.{WordAt}
 use Rattle.stream.proofs.LookLaws.{grown_by, grown_none, length-onwards, look-more, look-none, look-past}
 use Rattle.stream.proofs.WindowFacts.{knows-above, width_most}
 use Rattle.stream.proofs.look.look.Goals as goal

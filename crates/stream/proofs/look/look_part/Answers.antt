@@ -6,7 +6,7 @@ use Rattle.std.proofs.lemmas.Result.{err_from_is_err_and}
 use Rattle.std.proofs.lemmas.Slice.{between_to_end}
 use Rattle.window.specs.Known.{overlay}
 use Rattle.window.specs.Window.{knows}
-use Rattle.stream.specs.Looked.{LookOf}
+use Rattle.stream.specs.Look.{LookOf}
 use Rattle.stream.proofs.LookLaws.{look-more, look-none, look-past, seen_more}
 use Rattle.stream.proofs.look.look_part.Goals as goal
 

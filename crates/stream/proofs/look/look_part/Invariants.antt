@@ -4,7 +4,7 @@ use Rattle.automaton.specs.Tables.{TableOf}
 use Rattle.automaton.specs.Text.{Text}
 use Rattle.window.specs.Known.{Within, overlay}
 use Rattle.window.specs.Window.{knows, width}
-use Rattle.stream.specs.Looked.{LookOf}
+use Rattle.stream.specs.Look.{LookOf}
 use Rattle.stream.proofs.look.look_part.Given as goal
 
 -- `seen` was looked at without finding a word; the rest of the part is still to come

@@ -9,7 +9,7 @@ use Rattle.stream.specs.Part.{fin_may_stand, kept_if}
 use Rattle.stream.specs.Steps.{Segment, fin_left, run}
 use Rattle.stream.specs.Stream.{blank}
 use Rattle.stream.specs.declared.stream.Stream.{Stream as Value}
-use Rattle.stream.specs.declared.taken.Refused.TheVariants.{Shut, Word}
+use Rattle.stream.specs.declared.answer.Refused.TheVariants.{Shut, Word}
 use Rattle.stream.proofs.Kept.{promise}
 use Rattle.stream.proofs.TakeLaws.{closed-outcome, empty-outcome, fin_kept, fin_none, looks, part_inside, passed-outcome, passed_shown, shut_shown, text_ends_lem, text_low, took, word-outcome}
 use Rattle.stream.proofs.stream.Stream.take.Goals as goal

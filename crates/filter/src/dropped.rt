@@ -1,8 +1,8 @@
 // Why a packet does not go out.
 ghost use Rattle.std.specs.Prelude.{◌≡◌};
 ghost use Rattle.filter.specs.Dropped.{dropped_for};
-ghost use Rattle.filter.specs.declared.verdict.Dropped.TheVariants.{Refused};
-ghost use Rattle.filter.specs.declared.verdict.Refusal.TheVariants as refusal;
+ghost use Rattle.filter.specs.declared.dropped.Dropped.TheVariants.{Refused};
+ghost use Rattle.filter.specs.declared.dropped.Refusal.TheVariants as refusal;
 
 use stream::WordAt;
 

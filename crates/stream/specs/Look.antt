@@ -4,7 +4,7 @@ use Rattle.automaton.specs.Text.{Text}
 use Rattle.automaton.specs.Look.{look}
 use Rattle.automaton.specs.States.{run}
 use Rattle.stream.specs.declared.look.Reached.{Reached}
-use Rattle.stream.specs.declared.taken.WordAt.{WordAt}
+use Rattle.stream.specs.declared.answer.WordAt.{WordAt}
 
 -- an answer on the bytes that come after a text: where the text ends with them, and the state then; or the word that is found
 abbrev pub LookOf : List Text → Text → Text → Result Reached WordAt → Type 0
