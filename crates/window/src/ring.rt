@@ -76,6 +76,8 @@ impl Ring {
     }
 
     // Where a cell is known, from the cell `at` on, its byte stands in place of what came.
+    // Always inlined, as `agrees` is: for a part of a few bytes a call costs as much as the work.
+    #[inline(always)]
     pub fn overlay(&self, at: usize, part: &mut [u8])
         requires { at + length part.old ≤ vec_len self.now.bytes }
         ensures { part.new ≡ overlay (cells self.now) at part.old }
@@ -86,6 +88,7 @@ impl Ring {
     }
 
     // Would `overlay` leave a part as it is?
+    #[inline(always)]
     pub fn agrees(&self, at: usize, part: &[u8]) -> bool
         requires { at + length part.now ≤ vec_len self.now.bytes }
         ensures { Decides result (overlay (cells self.now) at part.now ≡ part.now) }
